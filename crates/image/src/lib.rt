@@ -12,7 +12,7 @@ pub trait ImageSource {
     ghost image: { Self → Image };
 
     // Its lists have at most 4,294,967,295 items, and its names are parts of its text.
-    law lawful: { (s : Self) → Lawful (image s) };
+    ghost lawful: { (s : Self) → Lawful (image s) };
 
     fn text(&self) -> &[u8]
         ensures { λ r. ⌜ now r ≡ image (now (self .entry)) .text ⌝ };

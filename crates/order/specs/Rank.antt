@@ -27,9 +27,18 @@ same (x ∷ xs) (y ∷ ys) = eqb x y && same xs ys
 abbrev pub Compared : Ordering → List ℕ → List ℕ → Type 0
 Compared o a b = Ranked o (before a b ≡ true) (same a b ≡ true) (before b a ≡ true)
 
+-- every row passes the test
+abbrev pub every : {X : Type 0} → (X → Bool) → List X → Bool
+every test [] = true
+every test (x ∷ xs) = test x && every test xs
+
 -- the test holds of each row and every later one
+abbrev pub pairwise : {X : Type 0} → (X → X → Bool) → List X → Bool
+pairwise test [] = true
+pairwise test (x ∷ xs) = every (test x) xs && pairwise test xs
+
 abbrev pub Pairwise : {X : Type 0} → (X → X → Bool) → List X → Type 0
-Pairwise {X} test xs = (i j : ℕ) (d : X) → i < j → j < length xs → test (getD xs i d) (getD xs j d) ≡ true
+Pairwise test xs = pairwise test xs ≡ true
 
 -- no row comes before an earlier one
 abbrev pub InOrder : {X : Type 0} → (X → List ℕ) → List X → Type 0

@@ -1,0 +1,4 @@
+pub mod Starts
+pub mod Blocks
+pub mod Outcome
+pub mod Filling

@@ -1,0 +1,3 @@
+// An image source over the caller's tables.
+pub mod source;
+pub mod tables;
