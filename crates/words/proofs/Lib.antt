@@ -1,0 +1,3 @@
+mod Digits
+mod Escapes
+mod Cutting
