@@ -1,6 +1,7 @@
 // The rows of a context's tables.
 ghost use mathlib.Core.Path.{_≡_};
 ghost use mathlib.Core.List.{[], _∷_};
+ghost use Rattle.order.specs.Rank.{Compared};
 ghost use Rattle.base.specs.Rows.{start-rank, start-meets, contribution-rank, contribution-meets, no-start, no-contribution};
 use crate::image::SectionOffset;
 use crate::image::TextPart;
@@ -51,6 +52,18 @@ impl Contribution {
             module: 0,
         }
     }
+
+    fn by_start(&self, other: &Contribution) -> Ordering
+        ensures { λ r. ⌜ Compared r (now (self .entry) .section ∷ now (self .entry) .start ∷ []) (now (other .entry) .section ∷ now (other .entry) .start ∷ []) ⌝ }
+    {
+        self.section.cmp(&other.section).then(self.start.cmp(&other.start))
+    }
+
+    fn by_end(&self, other: &Contribution) -> Ordering
+        ensures { λ r. ⌜ Compared r (now (self .entry) .end ∷ now (self .entry) .«module» ∷ []) (now (other .entry) .end ∷ now (other .entry) .«module» ∷ []) ⌝ }
+    {
+        self.end.cmp(&other.end).then(self.module.cmp(&other.module))
+    }
 }
 
 pub impl Row for KnownStart as KnownStartRow {
@@ -76,9 +89,7 @@ pub impl Row for Contribution as ContributionRow {
     ghost meets = { contribution-meets };
 
     fn compare(&self, other: &Contribution) -> Ordering {
-        let by_end = self.end.cmp(&other.end).then(self.module.cmp(&other.module));
-        let by_start = self.start.cmp(&other.start).then(by_end);
-        self.section.cmp(&other.section).then(by_start)
+        self.by_start(other).then(self.by_end(other))
     }
 
     fn meet(&self, _newer: &Contribution) -> Meeting {

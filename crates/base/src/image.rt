@@ -61,6 +61,6 @@ pub impl Span for Section as SectionSpan {
     }
 
     fn end(&self) -> u64 {
-        self.address as u64 + self.size as u64
+        u64::from(self.address) + u64::from(self.size)
     }
 }

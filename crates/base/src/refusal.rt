@@ -68,7 +68,7 @@ pub enum Refusal {
 }
 
 impl FaultyList {
-    pub fn step(&self) -> Step
+    fn step(&self) -> Step
         ensures { λ r. ⌜ r ≡ list-step (now (self .entry)) ⌝ }
     {
         match self {
@@ -79,7 +79,7 @@ impl FaultyList {
         }
     }
 
-    pub fn module(&self) -> Option<u16>
+    fn module(&self) -> Option<u16>
         ensures { λ r. ⌜ r ≡ list-module (now (self .entry)) ⌝ }
     {
         match self {
@@ -153,7 +153,7 @@ impl Refusal {
         }
     }
 
-    // The module that was being read, from the reading of a module to the walk.
+    // The one module that it names, where it names one.
     pub fn module(&self) -> Option<u16>
         ensures { λ r. ⌜ r ≡ module-of (now (self .entry)) ⌝ }
     {

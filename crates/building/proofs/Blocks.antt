@@ -122,13 +122,6 @@ short-none (a ∷ b ∷ xs) l = absurd (omega arith)
 pub overlap-end : (rows : List Contribution) (k : ℕ) → 1 ≤ k → length rows ≤ k → first-overlap (drop (k - 1) rows) ≡ None
 overlap-end rows k low l = short-none (drop (k - 1) rows) (let d = length-drop (k - 1) rows in omega arith)
 
-pub overlaps-true : (a b : Contribution) → a .section ≡ b .section → b .start < a .end → overlaps a b ≡ true
-overlaps-true a b e l = and-from _ _ (eq-eqb (a .section) (b .section) e) (lt-ltb (b .start) (a .end) l)
-
-pub overlaps-false : (a b : Contribution) → ((a .section ≡ b .section) × (a .end ≤ b .start)) ⊎ (a .section ≡ b .section → ⊥) → overlaps a b ≡ false
-overlaps-false a b h =
-    ⊎-elim (λ p. and-right (eqb (a .section) (b .section)) _ (le-ltb (b .start) (a .end) (p .1))) (λ p. and-left _ (ltb (b .start) (a .end)) (ne-eqb (a .section) (b .section) p)) h
-
 -- what holds of the blocks holds of them in order
 tally-at : (xs : List Contribution) (k : ℕ) (d : Contribution) → k < length xs → 0 < tally contribution-rank (contribution-rank (getD xs k d)) xs
 tally-at [] k d l = absurd (omega arith)

@@ -6,3 +6,4 @@ pub mod Outcomes
 pub mod Reading
 pub mod Sections
 pub mod Symbols
+pub mod Runs

@@ -36,14 +36,6 @@ module _ (rows : List Section) (count n : ℕ) where
       let near : n - 1 < length (take count rows) = (let k = length-take-le count rows w in omega arith) in
       sym (cond-false _ _ _ (ne-eqb n 0 (λ e. omega arith)) ∙ ap marked (nth-getD (take count rows) (n - 1) d near ∙ ap Some (getD-take count rows (n - 1) d (omega arith))))
 
--- a section that is refused, and one that is not
-pub section-bad : (k : ℕ) (s : Section) → (most-sections ≤ k) ⊎ (top < s .address + s .size) → section-refusal k s ≡ Some (SectionOutside k)
-section-bad k s h =
-    cond-true _ _ _ (⊎-elim (λ l. or-left (leb most-sections k) (ltb top (s .address + s .size)) (le-leb most-sections k l)) (λ l. or-right (leb most-sections k) (ltb top (s .address + s .size)) (lt-ltb top (s .address + s .size) l)) h)
-
-pub section-good : (k : ℕ) (s : Section) → k < most-sections → s .address + s .size ≤ top → section-refusal k s ≡ None
-section-good k s l m = cond-false _ _ _ (or-from _ _ (lt-leb most-sections k l) (le-ltb top (s .address + s .size) m))
-
 -- one section more in the array
 pub sections-more : (rows sections : List Section) (k : ℕ) (s : Section) → k < length rows → take k rows ≡ take k sections → nth sections k ≡ Some s → take (k + 1) (set rows k s) ≡ take (k + 1) sections
 sections-more rows sections k s l e i = take-more-set rows k s l ∙ ap (λ xs. xs ++ s ∷ []) e ∙ sym (item-take sections k s i)

@@ -2,3 +2,4 @@ pub mod Starts
 pub mod Blocks
 pub mod Outcome
 pub mod Filling
+pub mod Runs

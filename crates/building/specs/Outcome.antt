@@ -113,3 +113,7 @@ pub record Built : Type 0 where
 abbrev pub Outcome : Image → ℕ → ℕ → Result Built Refusal → Type 0
 Outcome i start-rows contribution-rows (Ok b) = (refusal i start-rows contribution-rows (b .contributions) ≡ None) × (b .sections ≡ i .sections) × Known (all-starts i) (b .starts) × Stands (blocks (all-kept i)) (b .contributions)
 Outcome i start-rows contribution-rows (Err e) = (xs : List Contribution) × Stands (blocks (all-kept i)) xs × (refusal i start-rows contribution-rows xs ≡ Some e)
+
+-- there is no more than one
+abbrev pub OneOutcome : Image → ℕ → ℕ → Type 0
+OneOutcome i start-rows contribution-rows = (r r′ : Result Built Refusal) → Outcome i start-rows contribution-rows r → Outcome i start-rows contribution-rows r′ → r ≡ r′

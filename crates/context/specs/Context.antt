@@ -1,23 +1,15 @@
 -- What a context holds. Assumes nothing.
-use mathlib.Core.Path.{_≡_}
 use mathlib.Core.List.{List}
-use Prim.Native.Nat.{ℕ}
-use lib.ListN.{length, take, replicate}
+use lib.ListN.{length, take}
 use denote.Ref.{now}
-use Rattle.std.specs.declared.result.Result.the-variants.{Ok, Err}
-use Rattle.base.specs.declared.image.Section.{Section}
+use Rattle.std.specs.declared.result.Result.the-variants.{Ok}
 use Rattle.base.specs.declared.context.KnownStart.{KnownStart}
 use Rattle.base.specs.declared.context.Contribution.{Contribution}
-use Rattle.base.specs.declared.refusal.Refusal.{Refusal}
-use Rattle.base.specs.Rows.{no-start, no-contribution}
 use Rattle.image.specs.Image.{Image}
 use Rattle.building.specs.Outcome.{Built, Outcome}
 use Rattle.building.specs.Filling.{Untouched}
-use Rattle.context.specs.declared.sections.Sections.{Sections}
+use Rattle.steps.specs.Used.{used}
 use Rattle.context.specs.declared.tables.Context.{Context}
-
-abbrev pub used : Sections → List Section
-used s = take (s .count) (s .rows)
 
 abbrev pub meaning : Context → Built
 meaning c = record { sections = used (c .sections); starts = take (c .«start_count») (now (c .starts)); contributions = take (c .«contribution_count») (now (c .contributions)) }
@@ -27,9 +19,3 @@ pub record Granted (i : Image) (starts : List KnownStart) (contributions : List 
   pub outcome : Outcome i (length starts) (length contributions) (Ok (meaning c))
   pub starts-rest : Untouched starts (now (c .starts)) (c .«start_count»)
   pub contributions-rest : Untouched contributions (now (c .contributions)) (c .«contribution_count»)
-
--- a refused building: every row is the empty one
-pub record Refused (i : Image) (starts : List KnownStart) (contributions : List Contribution) (e : Refusal) (starts′ : List KnownStart) (contributions′ : List Contribution) : Type 0 where
-  pub outcome : Outcome i (length starts) (length contributions) (Err e)
-  pub starts-cleared : starts′ ≡ replicate (length starts) no-start
-  pub contributions-cleared : contributions′ ≡ replicate (length contributions) no-contribution

@@ -7,9 +7,9 @@ ghost use Rattle.std.specs.shelf.Lists.{kept-by};
 ghost use Rattle.order.specs.Rank.{Rises, Pairwise};
 ghost use Rattle.base.specs.Rows.{start-rank, named};
 ghost use Rattle.building.specs.Blocks.{apart};
-use crate::sections::Sections;
 use base::context::Contribution;
 use base::context::KnownStart;
+use steps::sections::Sections;
 
 // What a caller hands over for building.
 #[derive(Drop)]

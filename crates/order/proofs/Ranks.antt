@@ -8,8 +8,9 @@ use native.Mathlib.Omega.{arith}
 use lib.Dec.{ltb, eqb}
 use Rattle.std.proofs.shelf.Ways.{tells}
 use Rattle.std.proofs.shelf.Tests.{and-parts, eqb-true, eq-eqb, cases-order, lt-ltb, both-ways, cases-bool}
-use Rattle.std.specs.Orderings.{Ranked, thenBy}
+use Rattle.std.specs.Orderings.{thenBy}
 use Rattle.std.specs.declared.cmp.Ordering.{Ordering}
+use Rattle.std.specs.declared.cmp.Ordering.the-variants.{Less, Equal, Greater}
 use Rattle.order.specs.Rank.{before, same, Compared}
 
 pub before-trans : (a b c : List ℕ) → before a b ≡ true → before b c ≡ true → before a c ≡ true
@@ -69,9 +70,10 @@ before-upto a b c h k =
     (⊎-elim (λ l. let e = same-eq a c l in absurd (both-ways _ k (rw e at h))) (λ l. absurd (both-ways _ k (before-trans c a b l h))))
     (cases-rank a c)
 
--- ranks are compared number by number
-pub compared-one : (x y : ℕ) (o : Ordering) → Ranked o (x < y) (x ≡ y) (y < x) → Compared o (x ∷ []) (y ∷ [])
-compared-one x y o h = grind (arith, tells)
-
-pub compared-then : (x y : ℕ) (xs ys : List ℕ) (o p : Ordering) → Ranked o (x < y) (x ≡ y) (y < x) → Compared p xs ys → Compared (thenBy o p) (x ∷ xs) (y ∷ ys)
-compared-then x y xs ys o p h k = grind (arith, tells)
+-- ranks are compared from the front: what comes after two numbers decides where these are the same
+pub compared-pairs : (a b c d : ℕ) (xs ys : List ℕ) (o p : Ordering) → Compared o (a ∷ b ∷ []) (c ∷ d ∷ []) → Compared p xs ys → Compared (thenBy o p) (a ∷ b ∷ xs) (c ∷ d ∷ ys)
+compared-pairs a b c d xs ys Less p h k = grind (arith, tells)
+compared-pairs a b c d xs ys Equal Less h k = grind (arith, tells)
+compared-pairs a b c d xs ys Equal Equal h k = grind (arith, tells)
+compared-pairs a b c d xs ys Equal Greater h k = grind (arith, tells)
+compared-pairs a b c d xs ys Greater p h k = grind (arith, tells)

@@ -4,6 +4,7 @@ ghost use mathlib.Core.Bool.{true, false, cond};
 ghost use mathlib.Core.List.{_++_};
 ghost use Prim.Native.Nat.{ℕ, _+_, _≤_, _<_};
 ghost use denote.Ref.{name};
+ghost use lib.Dec.{ltb};
 ghost use lib.ListN.{length, getD, take, drop};
 ghost use Rattle.std.specs.Holes.{inserted};
 ghost use Rattle.std.specs.Results.{isOk};
@@ -44,8 +45,8 @@ impl<'t, R: Row + Copy> Table<'t, R> {
         ensures lender { λ r. ⌜ name (now (self .exit) .rows) ≡ name (now (self .entry) .rows) ⌝ }
         ensures long { λ r. ⌜ length (now (now (self .exit) .rows)) ≡ length (now (now (self .entry) .rows)) ⌝ }
     {
-        let count = self.count.min(self.rows.len());
-        match insert_row(self.rows, count, row) {
+        let used = self.count;
+        match insert_row(self.rows, used, row) {
             Some(count) => {
                 self.count = count;
                 Ok(())
@@ -82,22 +83,28 @@ pub fn contains<S: Span>(span: &S, place: u32) -> bool
 
 // The number of used rows afterwards, or none where the table is full.
 fn insert_row<R: Row + Copy>(rows: &mut [R], count: usize, row: R) -> Option<usize>
-    requires { ⌜ count ≤ length (now rows) ⌝ }
     ensures { λ r. ⌜ (InOrder (R·Row .rank) (take count (now (rows .entry))) → Settled (R·Row .rank) (R·Row .meets) (now (rows .entry)) count row r (now (rows .exit))) ⌝ }
 {
-    let place = position(&rows[0..count], &row);
-    match meeting(&rows[0..count], place, &row) {
-        Meeting::Stays => Some(count),
+    let used = count.min(rows.len());
+    let place = position(&rows[0..used], &row);
+    match meeting(&rows[0..used], place, &row) {
+        Meeting::Stays => Some(used),
         Meeting::GivesWay => {
             rows[place] = row;
-            Some(count)
+            Some(used)
         }
-        Meeting::Both if count < rows.len() => {
-            open_at(rows, count, place, row);
-            Some(count + 1)
+        Meeting::Both if has_room(rows, used) => {
+            open_at(rows, used, place, row);
+            Some(used + 1)
         }
         Meeting::Both => None,
     }
+}
+
+fn has_room<R>(rows: &[R], used: usize) -> bool
+    ensures { λ r. ⌜ r ≡ ltb used (length (now (rows .entry))) ⌝ }
+{
+    used < rows.len()
 }
 
 // How the row at `place` meets `row`. `Both` where no row of its rank stands there.

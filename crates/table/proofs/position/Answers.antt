@@ -4,9 +4,6 @@ use lib.ListN.{length}
 use Rattle.order.proofs.Search.{below-step, above-step, not-less}
 use Rattle.table.proofs.position.Needs as need
 
-pub loop-low-holds : need.loop-low-holds
-loop-low-holds g c = (omega arith, omega arith, λ ord k d l. absurd (omega arith), λ ord k d l u. absurd (omega arith))
-
 pub loop-low-again-in-Less : need.loop-low-again-in-Less
 loop-low-again-in-Less g c = (
   omega arith,
@@ -22,13 +19,3 @@ loop-low-again g c = (
   c .loop-low .inv .2,
   λ ord. above-step (g .R·Row .rank) (c .args .rows .now) (g .R·Row .rank (c .args .row .now)) _ _ ord (omega arith) (c .index-rows-middle .is) (not-less _ (g .R·Row .rank (c .index-rows-middle .result)) (g .R·Row .rank (c .args .row .now)) (c .in-rest .not-Less) (c .compare .ensures)),
 )
-
-pub returns : need.returns
-returns g c = record {
-  within = omega arith;
-  place = λ ord. record {
-    within = omega arith;
-    below = c .loop-low .inv .2 ord;
-    above = λ k d l u. c .loop-low .inv .3 ord k d (omega arith) u;
-  };
-}
