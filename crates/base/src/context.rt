@@ -56,13 +56,17 @@ impl Contribution {
     fn by_start(&self, other: &Contribution) -> Ordering
         ensures { λ r. ⌜ Compared r (now (self .entry) .section ∷ now (self .entry) .start ∷ []) (now (other .entry) .section ∷ now (other .entry) .start ∷ []) ⌝ }
     {
-        self.section.cmp(&other.section).then(self.start.cmp(&other.start))
+        self.section
+            .cmp(&other.section)
+            .then(self.start.cmp(&other.start))
     }
 
     fn by_end(&self, other: &Contribution) -> Ordering
         ensures { λ r. ⌜ Compared r (now (self .entry) .end ∷ now (self .entry) .«module» ∷ []) (now (other .entry) .end ∷ now (other .entry) .«module» ∷ []) ⌝ }
     {
-        self.end.cmp(&other.end).then(self.module.cmp(&other.module))
+        self.end
+            .cmp(&other.end)
+            .then(self.module.cmp(&other.module))
     }
 }
 
@@ -72,7 +76,10 @@ pub impl Row for KnownStart as KnownStartRow {
     ghost meets = { start-meets };
 
     fn compare(&self, other: &KnownStart) -> Ordering {
-        self.offset.section.cmp(&other.offset.section).then(self.offset.offset.cmp(&other.offset.offset))
+        self.offset
+            .section
+            .cmp(&other.offset.section)
+            .then(self.offset.offset.cmp(&other.offset.offset))
     }
 
     fn meet(&self, newer: &KnownStart) -> Meeting {

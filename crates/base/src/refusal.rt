@@ -46,25 +46,61 @@ pub enum RowTable {
 #[derive(Clone, Copy)]
 pub enum Refusal {
     // 1 to 6: what the caller handed over
-    StartTableFull { step: Step },
+    StartTableFull {
+        step: Step,
+    },
     ContributionTableFull,
-    FrameTableShort { needed: u32 },
+    FrameTableShort {
+        needed: u32,
+    },
     AddressTableFull,
     TooManyHidden,
-    BadRow { table: RowTable, row: u64 },
+    BadRow {
+        table: RowTable,
+        row: u64,
+    },
     // 7 to 10: what the linker wrote
-    SectionOutside { item: u32 },
-    ContributionOutside { item: u32 },
-    Unordered { item: u32, module: u16, section: u16 },
-    Overlapping { section: u16, first: u16, second: u16 },
+    SectionOutside {
+        item: u32,
+    },
+    ContributionOutside {
+        item: u32,
+    },
+    Unordered {
+        item: u32,
+        module: u16,
+        section: u16,
+    },
+    Overlapping {
+        section: u16,
+        first: u16,
+        second: u16,
+    },
     // 11 to 15: what the compiler wrote
-    ProcedureOutside { module: u16, item: u32 },
-    TooManyProcedures { module: u16, item: u32 },
-    RangeOutside { module: u16, item: u32 },
-    SitesTooDeep { module: u16, item: u32 },
-    TooManyRanges { module: u16 },
+    ProcedureOutside {
+        module: u16,
+        item: u32,
+    },
+    TooManyProcedures {
+        module: u16,
+        item: u32,
+    },
+    RangeOutside {
+        module: u16,
+        item: u32,
+    },
+    SitesTooDeep {
+        module: u16,
+        item: u32,
+    },
+    TooManyRanges {
+        module: u16,
+    },
     // 16: the provider's own fault
-    Fault { list: FaultyList, code: u16 },
+    Fault {
+        list: FaultyList,
+        code: u16,
+    },
 }
 
 impl FaultyList {

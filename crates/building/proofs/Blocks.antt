@@ -47,9 +47,9 @@ apart-all (a ∷ b ∷ xs) o f p =
     ⊎-elim
     (λ t. absurd (some-never _ (sym (cond-true _ _ _ t) ∙ f)))
     (λ t.
-      let ih = apart-all (b ∷ xs) (q .1) (sym (cond-false _ _ _ t) ∙ f) (p .1) in
-      let next = apart-next a b (q .0 .0) t in
-      pairwise-from apart a (b ∷ xs) (next, all-weaker (λ y. apart b y ≡ true) (λ y. apart a y ≡ true) (λ y u. apart-trans a b y (p .1 .0) next u) xs (pairwise-cons apart b xs ih .0)) ih)
+    let ih = apart-all (b ∷ xs) (q .1) (sym (cond-false _ _ _ t) ∙ f) (p .1) in
+    let next = apart-next a b (q .0 .0) t in
+    pairwise-from apart a (b ∷ xs) (next, all-weaker (λ y. apart b y ≡ true) (λ y. apart a y ≡ true) (λ y u. apart-trans a b y (p .1 .0) next u) xs (pairwise-cons apart b xs ih .0)) ih)
     (cases-bool (overlaps a b))
 
 -- a contribution is known by its rank

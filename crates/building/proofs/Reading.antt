@@ -87,7 +87,7 @@ module _ (symbols : List KnownStart) (cs : List SectionContribution) (old-starts
     pub first-refused : item-refusal (length old-starts) (length old-rows) symbols cs k c ≡ cond (ltb top (end-of c)) (Some (ContributionOutside k)) None
     first-refused =
         let n : offset-count (symbols ++ contribution-starts (cs ++ c ∷ [])) ≤ length old-starts =
-            subst (λ ss. offset-count (symbols ++ ss) ≤ length old-starts) (sym first-starts) (let a = h .starts-hold .counted in let f = h .starts-hold .untouched .few in let l = h .starts-hold .untouched .long in omega arith) in
+        subst (λ ss. offset-count (symbols ++ ss) ≤ length old-starts) (sym first-starts) (let a = h .starts-hold .counted in let f = h .starts-hold .untouched .few in let l = h .starts-hold .untouched .long in omega arith) in
         or-none _ _ (cond-false _ _ _ (le-ltb (length old-starts) _ n)) ∙
         subst (λ l. or-else (cond (closes (blocks l) c && ltb (length old-rows) (length (blocks l))) (Some ContributionTableFull) None) (or-else (cond (ltb top (end-of c)) (Some (ContributionOutside k)) None) (cond (unordered (blocks l) c) (Some (Unordered k (c .«module») (c .offset .section))) None)) ≡ cond (ltb top (end-of c)) (Some (ContributionOutside k)) None) (sym none-before) (or-nothing (cond (ltb top (end-of c)) (Some (ContributionOutside k)) None))
 

@@ -44,9 +44,11 @@ longest-head : (x : SectionContribution) (r : List SectionContribution) (c : Sec
 longest-head x r c [] h l = tt
 longest-head x r c ([] ∷ rs) h l = absurd (l .0)
 longest-head x r c ((d ∷ ds) ∷ rs) h l =
-    let p = same-parts x c h in
-    (subst (λ s. (eqb (d .offset .section) s && eqb (d .«module») (c .«module»)) ≡ false) (p .0)
-      (subst (λ m. (eqb (d .offset .section) (x .offset .section) && eqb (d .«module») m) ≡ false) (p .1) (l .0)), l .1)
+    let p = same-parts x c h in (
+      subst (λ s. (eqb (d .offset .section) s && eqb (d .«module») (c .«module»)) ≡ false) (p .0)
+          (subst (λ m. (eqb (d .offset .section) (x .offset .section) && eqb (d .«module») m) ≡ false) (p .1) (l .0)),
+      l .1,
+    )
 
 next : (rs : List (List SectionContribution)) (c : SectionContribution) → Good rs → Next rs c
 next [] c g = record { after = (c ∷ []) ∷ []; good = record { runs = (tt, tt); longest = tt }; whole = refl; spans = refl }
@@ -71,8 +73,7 @@ all-runs : (cs : List SectionContribution) (rs : List (List SectionContribution)
 all-runs [] rs g = (rs, refl, g, refl)
 all-runs (c ∷ cs) rs g =
     let n = next rs c g in
-    let r = all-runs cs (n .after) (n .good) in
-    (
+    let r = all-runs cs (n .after) (n .good) in (
       r .0,
       r .1 ∙ ap (λ l. reverse cs ++ l) (n .whole) ∙ sym (append-assoc (reverse cs) (c ∷ []) (joined Id rs)) ∙ ap (λ l. l ++ joined Id rs) (sym (reverse-append (c ∷ []) cs)),
       r .2,

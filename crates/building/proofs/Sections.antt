@@ -76,6 +76,6 @@ module _ (cs : List KnownStart) (sections : List Section) (k : ℕ) (s : Section
   ends-full t n e x h =
       let rest = section-ends (1 + length (take (k + 1) sections)) (drop (k + 1) sections) in
       let whole : (cs ++ section-ends 1 (take (k + 1) sections)) ++ rest ≡ cs ++ section-ends 1 sections =
-          append-assoc cs (section-ends 1 (take (k + 1) sections)) rest ∙ ap (λ l. cs ++ l) (sym (ends-both 1 (take (k + 1) sections) (drop (k + 1) sections)) ∙ ap (section-ends 1) (take-append-drop (k + 1) sections)) in
+      append-assoc cs (section-ends 1 (take (k + 1) sections)) rest ∙ ap (λ l. cs ++ l) (sym (ends-both 1 (take (k + 1) sections) (drop (k + 1) sections)) ∙ ap (section-ends 1) (take-append-drop (k + 1) sections)) in
       full-with-more ((cs ++ section-ends 1 (take k sections)) ++ unnamed-start (record { section = k + 1; offset = s .size }) ∷ []) rest n e x h ∙
       ap (λ ss. cond (ltb n (offset-count ss)) (Some x) None) (ap (λ l. l ++ rest) (ends-kept t) ∙ whole)

@@ -27,8 +27,8 @@ first-more : {X : Type 0} (t : X → Bool) (xs : List X) (x : X) → first t (xs
 first-more t [] x = refl
 first-more t (y ∷ ys) x =
     elim (t y) as (λ b. cond b (Some y) (first t (ys ++ x ∷ [])) ≡ or-else (cond b (Some y) (first t ys)) (cond (t x) (Some x) None)) [
-      true ↦ refl
-    | false ↦ first-more t ys x
+      | true ↦ refl
+      | false ↦ first-more t ys x
     ]
 
 some-is : {Y : Type 0} (a b : Y) → Some a ≡ Some b → a ≡ b
@@ -67,8 +67,8 @@ first-weaker n t [] x e f = absurd (none-some x f)
 first-weaker n t (y ∷ ys) x e f =
     ⊎-elim
     (λ b. let s : y ≡ x = some-is y x (sym (cond-true _ _ _ b) ∙ f) in
-      subst (λ v. n v ≡ false) s
-      (⊎-elim (λ m. absurd (none-some y (sym e ∙ cond-true _ _ _ (and-from _ _ m b)))) (λ m. m) (cases-bool (n y))))
+    subst (λ v. n v ≡ false) s
+    (⊎-elim (λ m. absurd (none-some y (sym e ∙ cond-true _ _ _ (and-from _ _ m b)))) (λ m. m) (cases-bool (n y))))
     (λ b. first-weaker n t ys x (sym (cond-false _ _ _ (and-off (n y) (t y) b)) ∙ e) (sym (cond-false _ _ _ b) ∙ f))
     (cases-bool (t y))
 
@@ -122,12 +122,12 @@ pub known-more : (cs xs : List KnownStart) (c : KnownStart) → Known cs xs → 
 known-more cs xs c h = record {
   rises = rises-placed start-rank start-meets never-both c xs (h .rises);
   gives = λ o.
-    ⊎-elim
-    (λ s.
+      ⊎-elim
+      (λ s.
       let e : start-rank c ≡ offset-rank o = same-eq (start-rank c) (offset-rank o) s in
       ap (λ q. at start-rank q (placed start-rank start-meets c xs)) (sym e) ∙ at-placed-here start-rank start-meets c xs (h .rises) ∙ ap (λ q. Some (won (at start-rank q xs) c)) e ∙ ap (λ w. Some (won w c)) (h .gives o) ∙ sym (start-at-more cs c o ∙ cond-true _ _ _ s))
-    (λ s. at-placed-away start-rank start-meets (offset-rank o) c xs s ∙ h .gives o ∙ sym (start-at-more cs c o ∙ cond-false _ _ _ s))
-    (cases-bool (Here o c));
+      (λ s. at-placed-away start-rank start-meets (offset-rank o) c xs s ∙ h .gives o ∙ sym (start-at-more cs c o ∙ cond-false _ _ _ s))
+      (cases-bool (Here o c));
 }
 
 -- no other list of starts is known
@@ -138,10 +138,10 @@ known-one cs xs ys h k = unique-rising start-rank xs ys (h .rises) (k .rises) (�
 some-start : (cs : List KnownStart) (o : SectionOffset) → isSome (start-at cs o) ≡ isSome (at start-rank (offset-rank o) cs)
 some-start cs o =
     let h : (f : Option KnownStart) → first (λ s. named s && Here o s) cs ≡ f → isSome (or-else f (at start-rank (offset-rank o) cs)) ≡ isSome (at start-rank (offset-rank o) cs) =
-        λ f. elim f as (λ v. first (λ s. named s && Here o s) cs ≡ v → isSome (or-else v (at start-rank (offset-rank o) cs)) ≡ isSome (at start-rank (offset-rank o) cs)) [
-          None ↦ λ e. refl
-        | Some x ↦ λ e. sym (first-stronger named (Here o) cs x e)
-        ] in
+    λ f. elim f as (λ v. first (λ s. named s && Here o s) cs ≡ v → isSome (or-else v (at start-rank (offset-rank o) cs)) ≡ isSome (at start-rank (offset-rank o) cs)) [
+      | None ↦ λ e. refl
+      | Some x ↦ λ e. sym (first-stronger named (Here o) cs x e)
+    ] in
     h _ refl
 
 abbrev new : KnownStart → List KnownStart → ℕ
@@ -172,15 +172,15 @@ count-more (x ∷ cs) c =
     let ih = count-more cs c in
     ⊎-elim
     (λ s.
-      let r : start-rank x ≡ start-rank c = same-eq (start-rank x) (start-rank c) s in
-      let a : _≡_ {A = ℕ} (new x (cs ++ c ∷ [])) 0 = new-last x c cs (subst (λ q. same (start-rank c) q ≡ true) (sym r) (same-refl (start-rank c))) in
-      let b : _≡_ {A = ℕ} (new c (x ∷ cs)) 0 = ap (λ o. cond (isSome o) 0 1) (cond-true _ _ _ s) in
-      let e : _≡_ {A = ℕ} (new x cs) (new c cs) = ap (λ q. cond (isSome (at start-rank q cs)) 0 1) r in
-      omega arith)
+    let r : start-rank x ≡ start-rank c = same-eq (start-rank x) (start-rank c) s in
+    let a : _≡_ {A = ℕ} (new x (cs ++ c ∷ [])) 0 = new-last x c cs (subst (λ q. same (start-rank c) q ≡ true) (sym r) (same-refl (start-rank c))) in
+    let b : _≡_ {A = ℕ} (new c (x ∷ cs)) 0 = ap (λ o. cond (isSome o) 0 1) (cond-true _ _ _ s) in
+    let e : _≡_ {A = ℕ} (new x cs) (new c cs) = ap (λ q. cond (isSome (at start-rank q cs)) 0 1) r in
+    omega arith)
     (λ s.
-      let a : _≡_ {A = ℕ} (new x (cs ++ c ∷ [])) (new x cs) = new-more x c cs (same-flip (start-rank x) (start-rank c) s) in
-      let b : _≡_ {A = ℕ} (new c (x ∷ cs)) (new c cs) = ap (λ o. cond (isSome o) 0 1) (cond-false _ _ _ s) in
-      omega arith)
+    let a : _≡_ {A = ℕ} (new x (cs ++ c ∷ [])) (new x cs) = new-more x c cs (same-flip (start-rank x) (start-rank c) s) in
+    let b : _≡_ {A = ℕ} (new c (x ∷ cs)) (new c cs) = ap (λ o. cond (isSome o) 0 1) (cond-false _ _ _ s) in
+    omega arith)
     (cases-bool (same (start-rank x) (start-rank c)))
 
 pub count-grows : (cs ds : List KnownStart) → offset-count cs ≤ offset-count (cs ++ ds)

@@ -47,7 +47,11 @@ impl<'a> Context<'a> {
 }
 
 // Builds a context from an image into `place`. Refused, the place stays as it was, and every row of the tables is empty.
-pub fn build<'a, S: ImageSource>(source: &S, tables: &mut Tables<'a>, place: &mut Context<'a>) -> Result<(), Refusal>
+pub fn build<'a, S: ImageSource>(
+    source: &S,
+    tables: &mut Tables<'a>,
+    place: &mut Context<'a>,
+) -> Result<(), Refusal>
     ensures granted { λ r. ⌜ made r (λ _. Granted (S·ImageSource .image (now (source .entry))) (now (now (tables .entry) .starts)) (now (now (tables .entry) .contributions)) (now (place .exit))) ⌝ }
     ensures refused { λ r. ⌜ refused r (λ e. Outcome (S·ImageSource .image (now (source .entry))) (length (now (now (tables .entry) .starts))) (length (now (now (tables .entry) .contributions))) (Err e)) ⌝ }
     ensures place { λ r. ⌜ refused r (λ _. now (place .exit) ≡ now (place .entry)) ⌝ }
@@ -69,7 +73,11 @@ pub fn build<'a, S: ImageSource>(source: &S, tables: &mut Tables<'a>, place: &mu
 }
 
 // The same, but what a refusal leaves in the rows of the tables is open.
-fn fill_place<'a, S: ImageSource>(source: &S, tables: &mut Tables<'a>, place: &mut Context<'a>) -> Result<(), Refusal>
+fn fill_place<'a, S: ImageSource>(
+    source: &S,
+    tables: &mut Tables<'a>,
+    place: &mut Context<'a>,
+) -> Result<(), Refusal>
     ensures granted { λ r. ⌜ made r (λ _. Granted (S·ImageSource .image (now (source .entry))) (now (now (tables .entry) .starts)) (now (now (tables .entry) .contributions)) (now (place .exit))) ⌝ }
     ensures refused { λ r. ⌜ refused r (λ e. Outcome (S·ImageSource .image (now (source .entry))) (length (now (now (tables .entry) .starts))) (length (now (now (tables .entry) .contributions))) (Err e)) ⌝ }
     ensures place { λ r. ⌜ refused r (λ _. now (place .exit) ≡ now (place .entry)) ⌝ }
@@ -84,8 +92,14 @@ fn fill_place<'a, S: ImageSource>(source: &S, tables: &mut Tables<'a>, place: &m
     let mut contributions = Table::over(mem::replace(&mut tables.contributions, &mut []));
     match fill(source, &mut starts, &mut contributions) {
         Ok(sections) => {
-            let Table { rows: starts, count: start_count } = starts;
-            let Table { rows: contributions, count: contribution_count } = contributions;
+            let Table {
+                rows: starts,
+                count: start_count,
+            } = starts;
+            let Table {
+                rows: contributions,
+                count: contribution_count,
+            } = contributions;
             let named_count = count_named(&starts[0..start_count]);
             *place = Context {
                 sections,
@@ -98,8 +112,14 @@ fn fill_place<'a, S: ImageSource>(source: &S, tables: &mut Tables<'a>, place: &m
             Ok(())
         }
         Err(refusal) => {
-            let Table { rows: starts, count: _ } = starts;
-            let Table { rows: contributions, count: _ } = contributions;
+            let Table {
+                rows: starts,
+                count: _,
+            } = starts;
+            let Table {
+                rows: contributions,
+                count: _,
+            } = contributions;
             tables.starts = starts;
             tables.contributions = contributions;
             Err(refusal)

@@ -28,25 +28,25 @@ shifted old new p n r pn nl len low at′ mid high =
     same-lists new _
     (sym (length-append (inserted (take n old) p r) (drop (n + 1) old) ∙ (let ld = length-drop (n + 1) old in omega arith)))
     (λ k d kl.
-      ⊎-elim
-      (λ inl′.
-        sym (getD-append-left (inserted (take n old) p r) (drop (n + 1) old) d k (omega arith) ∙
-        ⊎-elim
-        (λ below. getD-inserted-below (take n old) p r d k below (omega arith) ∙ getD-take n old k d (omega arith) ∙ sym (low k d below))
-        (λ rest. ⊎-elim
-          (λ above.
-            let j : ℕ = k - 1 in
-            let e : k ≡ j + 1 = omega arith in
-            subst (λ m. getD (inserted (take n old) p r) m d ≡ getD new m d) (sym e)
-            (getD-inserted-above (take n old) p r d j (omega arith) (omega arith) ∙ getD-take n old j d (omega arith) ∙ sym (mid j d (omega arith) (omega arith))))
-          (λ upto.
-            let e : k ≡ p = omega arith in
-            subst (λ m. getD (inserted (take n old) p r) m d ≡ getD new m d) (sym e) (getD-inserted-at (take n old) p r d (omega arith) ∙ sym (at′ d)))
-          (cases-lt p k))
-        (cases-lt k p)))
-      (λ past.
-        sym (getD-append-right (inserted (take n old) p r) (drop (n + 1) old) (n + 1) k d li past ∙ getD-drop (n + 1) old (k - (n + 1)) d ∙ ap (λ m. getD old m d) (omega arith) ∙ sym (high k d (omega arith))))
-      (cases-lt k (n + 1)))
+    ⊎-elim
+    (λ inl′.
+    sym (getD-append-left (inserted (take n old) p r) (drop (n + 1) old) d k (omega arith) ∙
+    ⊎-elim
+    (λ below. getD-inserted-below (take n old) p r d k below (omega arith) ∙ getD-take n old k d (omega arith) ∙ sym (low k d below))
+    (λ rest. ⊎-elim
+    (λ above.
+    let j : ℕ = k - 1 in
+    let e : k ≡ j + 1 = omega arith in
+    subst (λ m. getD (inserted (take n old) p r) m d ≡ getD new m d) (sym e)
+    (getD-inserted-above (take n old) p r d j (omega arith) (omega arith) ∙ getD-take n old j d (omega arith) ∙ sym (mid j d (omega arith) (omega arith))))
+    (λ upto.
+    let e : k ≡ p = omega arith in
+    subst (λ m. getD (inserted (take n old) p r) m d ≡ getD new m d) (sym e) (getD-inserted-at (take n old) p r d (omega arith) ∙ sym (at′ d)))
+    (cases-lt p k))
+    (cases-lt k p)))
+    (λ past.
+    sym (getD-append-right (inserted (take n old) p r) (drop (n + 1) old) (n + 1) k d li past ∙ getD-drop (n + 1) old (k - (n + 1)) d ∙ ap (λ m. getD old m d) (omega arith) ∙ sym (high k d (omega arith))))
+    (cases-lt k (n + 1)))
 
 module _ {X : Type 0} (rank : X → List ℕ) (meets : X → X → Meeting) (r : X) (xs : List X) (p : ℕ) (h : Place rank xs (rank r) p) where
   split : placed rank meets r xs ≡ take p xs ++ placed rank meets r (drop p xs)
@@ -66,9 +66,9 @@ module _ {X : Type 0} (rank : X → List ℕ) (meets : X → X → Meeting) (r :
   placed-changed x l e s =
       let o : drop p xs ≡ x ∷ drop (suc p) xs = opened x l ∙ ap (λ y. y ∷ drop (suc p) xs) (sym e) in
       placed-met x l e s ∙ (elim (meets x r) as (λ m. take p xs ++ met m x r (drop (suc p) xs) ≡ changed m xs p r) [
-        Stays ↦ ap (λ ys. take p xs ++ ys) (sym o) ∙ take-append-drop p xs
-      | GivesWay ↦ sym (set-split xs p r l)
-      | Both ↦ ap (λ ys. take p xs ++ r ∷ ys) (sym o)
+        | Stays ↦ ap (λ ys. take p xs ++ ys) (sym o) ∙ take-append-drop p xs
+        | GivesWay ↦ sym (set-split xs p r l)
+        | Both ↦ ap (λ ys. take p xs ++ r ∷ ys) (sym o)
       ])
 
   pub placed-new : (x : X) → p < length xs → x ≡ getD xs p x → same (rank x) (rank r) ≡ false → placed rank meets r xs ≡ inserted xs p r

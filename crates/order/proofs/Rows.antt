@@ -82,10 +82,10 @@ module _ {X : Type 0} (rank : X → List ℕ) (meets : X → X → Meeting) wher
   placed-all P r [] a p = (p, tt)
   placed-all P r (x ∷ xs) a p =
       elim (before (rank x) (rank r)) as (λ b. All P (cond b (x ∷ placed rank meets r xs) (cond (same (rank x) (rank r)) (met (meets x r) x r xs) (r ∷ x ∷ xs)))) [
-        true ↦ (a .0, placed-all P r xs (a .1) p)
-      | false ↦ elim (same (rank x) (rank r)) as (λ s. All P (cond s (met (meets x r) x r xs) (r ∷ x ∷ xs))) [
-          true ↦ met-all P (meets x r) x r xs (a .0) p (a .1)
-        | false ↦ (p, a)
+        | true ↦ (a .0, placed-all P r xs (a .1) p)
+        | false ↦ elim (same (rank x) (rank r)) as (λ s. All P (cond s (met (meets x r) x r xs) (r ∷ x ∷ xs))) [
+          | true ↦ met-all P (meets x r) x r xs (a .0) p (a .1)
+          | false ↦ (p, a)
         ]
       ]
 
@@ -123,16 +123,16 @@ module _ {X : Type 0} (rank : X → List ℕ) (meets : X → X → Meeting) wher
       by-place r x xs
       (λ b e. subst (InOrder rank) (sym e) (pairwise-from Upto x _ (placed-all (λ y. Upto x y ≡ true) r xs (p .0) (not-is _ (before-asym (rank x) (rank r) b))) (in-order-placed r xs (p .1))))
       (λ s e. subst (InOrder rank) (sym e) (
-        let n = not-before-self (rank x) (rank r) s in
-        let a = upto-all r x xs n (p .0) in
-        elim (meets x r) as (λ m. InOrder rank (met m x r xs)) [
-          Stays ↦ h
+      let n = not-before-self (rank x) (rank r) s in
+      let a = upto-all r x xs n (p .0) in
+      elim (meets x r) as (λ m. InOrder rank (met m x r xs)) [
+        | Stays ↦ h
         | GivesWay ↦ pairwise-from Upto r xs a (p .1)
         | Both ↦ pairwise-from Upto r (x ∷ xs) (not-is _ n, a) h
-        ]))
+      ]))
       (λ b e. subst (InOrder rank) (sym e) (
-        let n = before-asym (rank r) (rank x) b in
-        pairwise-from Upto r (x ∷ xs) (not-is _ n, upto-all r x xs n (p .0)) h))
+      let n = before-asym (rank r) (rank x) b in
+      pairwise-from Upto r (x ∷ xs) (not-is _ n, upto-all r x xs n (p .0)) h))
 
   pub rises-placed : ((x r : X) → meets x r ≡ Both → ⊥) → (r : X) (xs : List X) → Rises rank xs → Rises rank (placed rank meets r xs)
   rises-placed one r [] h = pairwise-from Before r [] tt h
@@ -141,12 +141,12 @@ module _ {X : Type 0} (rank : X → List ℕ) (meets : X → X → Meeting) wher
       by-place r x xs
       (λ b e. subst (Rises rank) (sym e) (pairwise-from Before x _ (placed-all (λ y. Before x y ≡ true) r xs (p .0) b) (rises-placed one r xs (p .1))))
       (λ s e. subst (Rises rank) (sym e) (
-        let a = before-all r x xs (not-before-self (rank x) (rank r) s) (p .0) in
-        (elim (meets x r) as (λ m. (m ≡ Both → ⊥) → Rises rank (met m x r xs)) [
-          Stays ↦ λ _. h
+      let a = before-all r x xs (not-before-self (rank x) (rank r) s) (p .0) in
+      (elim (meets x r) as (λ m. (m ≡ Both → ⊥) → Rises rank (met m x r xs)) [
+        | Stays ↦ λ _. h
         | GivesWay ↦ λ _. pairwise-from Before r xs a (p .1)
         | Both ↦ λ no′. absurd (no′ refl)
-        ]) (one x r)))
+      ]) (one x r)))
       (λ b e. subst (Rises rank) (sym e) (pairwise-from Before r (x ∷ xs) (b, before-all r x xs (before-asym (rank r) (rank x) b) (p .0)) h))
 
   -- after r there is no row of r's rank
@@ -163,12 +163,12 @@ module _ {X : Type 0} (rank : X → List ℕ) (meets : X → X → Meeting) wher
       by-place r x xs
       (λ b e. ap (at rank q) e ∙ ap (cond (same (rank x) q) (Some x)) (at-placed-away q r xs n))
       (λ s e. ap (at rank q) e ∙ (
-        let m : same (rank x) q ≡ false = rw s n in
-        elim (meets x r) as (λ k. at rank q (met k x r xs) ≡ at rank q (x ∷ xs)) [
-          Stays ↦ refl
+      let m : same (rank x) q ≡ false = rw s n in
+      elim (meets x r) as (λ k. at rank q (met k x r xs) ≡ at rank q (x ∷ xs)) [
+        | Stays ↦ refl
         | GivesWay ↦ cond-false _ _ _ n ∙ sym (cond-false _ _ _ m)
         | Both ↦ cond-false _ _ _ n
-        ]))
+      ]))
       (λ b e. ap (at rank q) e ∙ cond-false _ _ _ n)
 
   -- at r's rank stands r, or the row that it met and that stays
@@ -178,20 +178,20 @@ module _ {X : Type 0} (rank : X → List ℕ) (meets : X → X → Meeting) wher
       let p = pairwise-cons Before x xs h in
       by-place r x xs
       (λ b e.
-        let n : same (rank x) (rank r) ≡ false = before-not-same (rank x) (rank r) b in
-        ap (at rank (rank r)) e ∙ cond-false _ _ _ n ∙ at-placed-here r xs (p .1) ∙ ap (λ o. Some (winner o r)) (sym (cond-false _ _ _ n)))
+      let n : same (rank x) (rank r) ≡ false = before-not-same (rank x) (rank r) b in
+      ap (at rank (rank r)) e ∙ cond-false _ _ _ n ∙ at-placed-here r xs (p .1) ∙ ap (λ o. Some (winner o r)) (sym (cond-false _ _ _ n)))
       (λ s e.
-        let m : same (rank x) (rank r) ≡ true = rw s (same-refl (rank r)) in
-        let here : at rank (rank r) (x ∷ xs) ≡ Some x = cond-true _ _ _ m in
-        ap (at rank (rank r)) e ∙ (
-          elim (meets x r) as (λ k. at rank (rank r) (met k x r xs) ≡ Some (elim k [ Stays ↦ x | GivesWay ↦ r | Both ↦ r ])) [
-            Stays ↦ here
-          | GivesWay ↦ cond-true _ _ _ (same-refl (rank r))
-          | Both ↦ cond-true _ _ _ (same-refl (rank r))
-          ]) ∙ ap (λ o. Some (winner o r)) (sym here))
+      let m : same (rank x) (rank r) ≡ true = rw s (same-refl (rank r)) in
+      let here : at rank (rank r) (x ∷ xs) ≡ Some x = cond-true _ _ _ m in
+      ap (at rank (rank r)) e ∙ (
+      elim (meets x r) as (λ k. at rank (rank r) (met k x r xs) ≡ Some (elim k [ Stays ↦ x | GivesWay ↦ r | Both ↦ r ])) [
+        | Stays ↦ here
+        | GivesWay ↦ cond-true _ _ _ (same-refl (rank r))
+        | Both ↦ cond-true _ _ _ (same-refl (rank r))
+      ]) ∙ ap (λ o. Some (winner o r)) (sym here))
       (λ b e.
-        let a : All (λ y. Before r y ≡ true) (x ∷ xs) = (b, before-all r x xs (before-asym (rank r) (rank x) b) (p .0)) in
-        ap (at rank (rank r)) e ∙ cond-true _ _ _ (same-refl (rank r)) ∙ ap (λ o. Some (winner o r)) (sym (at-none r (x ∷ xs) a)))
+      let a : All (λ y. Before r y ≡ true) (x ∷ xs) = (b, before-all r x xs (before-asym (rank r) (rank x) b) (p .0)) in
+      ap (at rank (rank r)) e ∙ cond-true _ _ _ (same-refl (rank r)) ∙ ap (λ o. Some (winner o r)) (sym (at-none r (x ∷ xs) a)))
 
   -- one row more where r's rank is new, and else none
   pub length-placed : ((x r : X) → meets x r ≡ Both → ⊥) → (r : X) (xs : List X) → Rises rank xs → length (placed rank meets r xs) ≡ cond (isSome (at rank (rank r) xs)) 0 1 + length xs
@@ -200,23 +200,23 @@ module _ {X : Type 0} (rank : X → List ℕ) (meets : X → X → Meeting) wher
       let p = pairwise-cons Before x xs h in
       by-place r x xs
       (λ b e.
-        let n : same (rank x) (rank r) ≡ false = before-not-same (rank x) (rank r) b in
-        let back : at rank (rank r) (x ∷ xs) ≡ at rank (rank r) xs = cond-false _ _ _ n in
-        let ih = length-placed one r xs (p .1) in
-        let f : length (placed rank meets r (x ∷ xs)) ≡ suc (length (placed rank meets r xs)) = ap length e in
-        f ∙ ap suc ih ∙ suc-through _ _ ∙ ap (λ o. cond (isSome o) 0 1 + suc (length xs)) (sym back))
+      let n : same (rank x) (rank r) ≡ false = before-not-same (rank x) (rank r) b in
+      let back : at rank (rank r) (x ∷ xs) ≡ at rank (rank r) xs = cond-false _ _ _ n in
+      let ih = length-placed one r xs (p .1) in
+      let f : length (placed rank meets r (x ∷ xs)) ≡ suc (length (placed rank meets r xs)) = ap length e in
+      f ∙ ap suc ih ∙ suc-through _ _ ∙ ap (λ o. cond (isSome o) 0 1 + suc (length xs)) (sym back))
       (λ s e.
-        let m : same (rank x) (rank r) ≡ true = rw s (same-refl (rank r)) in
-        let here : at rank (rank r) (x ∷ xs) ≡ Some x = cond-true _ _ _ m in
-        ap length e ∙ (
-          (elim (meets x r) as (λ k. (k ≡ Both → ⊥) → length (met k x r xs) ≡ suc (length xs)) [
-            Stays ↦ λ _. refl
-          | GivesWay ↦ λ _. refl
-          | Both ↦ λ no′. absurd (no′ refl)
-          ]) (one x r)) ∙ zero-plus _ ∙ ap (λ o. cond (isSome o) 0 1 + suc (length xs)) (sym here))
+      let m : same (rank x) (rank r) ≡ true = rw s (same-refl (rank r)) in
+      let here : at rank (rank r) (x ∷ xs) ≡ Some x = cond-true _ _ _ m in
+      ap length e ∙ (
+      (elim (meets x r) as (λ k. (k ≡ Both → ⊥) → length (met k x r xs) ≡ suc (length xs)) [
+        | Stays ↦ λ _. refl
+        | GivesWay ↦ λ _. refl
+        | Both ↦ λ no′. absurd (no′ refl)
+      ]) (one x r)) ∙ zero-plus _ ∙ ap (λ o. cond (isSome o) 0 1 + suc (length xs)) (sym here))
       (λ b e.
-        let a : All (λ y. Before r y ≡ true) (x ∷ xs) = (b, before-all r x xs (before-asym (rank r) (rank x) b) (p .0)) in
-        ap length e ∙ one-plus _ ∙ ap (λ o. cond (isSome o) 0 1 + suc (length xs)) (sym (at-none r (x ∷ xs) a)))
+      let a : All (λ y. Before r y ≡ true) (x ∷ xs) = (b, before-all r x xs (before-asym (rank r) (rank x) b) (p .0)) in
+      ap length e ∙ one-plus _ ∙ ap (λ o. cond (isSome o) 0 1 + suc (length xs)) (sym (at-none r (x ∷ xs) a)))
 
   -- where equals all stand, there is always one row more
   pub length-placed-both : ((x r : X) → meets x r ≡ Both) → (r : X) (xs : List X) → length (placed rank meets r xs) ≡ suc (length xs)
@@ -248,9 +248,9 @@ module _ {X : Type 0} (rank : X → List ℕ) (meets : X → X → Meeting) wher
       by-place r x xs
       (λ b e. let l = length-placed-least r xs in let f : length (placed rank meets r (x ∷ xs)) ≡ suc (length (placed rank meets r xs)) = ap length e in omega arith)
       (λ s e.
-        let f : length (placed rank meets r (x ∷ xs)) ≡ length (met (meets x r) x r xs) = ap length e in
-        let g : suc (length xs) ≤ length (met (meets x r) x r xs) = elim (meets x r) as (λ m. suc (length xs) ≤ length (met m x r xs)) [ Stays ↦ omega arith | GivesWay ↦ omega arith | Both ↦ omega arith ] in
-        omega arith)
+      let f : length (placed rank meets r (x ∷ xs)) ≡ length (met (meets x r) x r xs) = ap length e in
+      let g : suc (length xs) ≤ length (met (meets x r) x r xs) = elim (meets x r) as (λ m. suc (length xs) ≤ length (met m x r xs)) [ Stays ↦ omega arith | GivesWay ↦ omega arith | Both ↦ omega arith ] in
+      omega arith)
       (λ b e. let f : length (placed rank meets r (x ∷ xs)) ≡ suc (suc (length xs)) = ap length e in omega arith)
 
 pub in-order-from-rises : {X : Type 0} (rank : X → List ℕ) (xs : List X) → Rises rank xs → InOrder rank xs

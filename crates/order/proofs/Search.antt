@@ -38,9 +38,9 @@ module _ {X : Type 0} (rank : X → List ℕ) (xs : List X) (q : List ℕ) (m : 
       let here : before (rank (getD xs m d)) q ≡ false = subst (λ y. before (rank y) q ≡ false) (getD-read xs m x within read d) b in
       ⊎-elim
       (λ lt.
-        ⊎-elim
-        (λ t. absurd (both-ways _ here (upto-before (rank (getD xs m d)) (rank (getD xs k d)) q (not-true _ (pairwise-at (λ x y. not (before (rank y) (rank x))) xs ord m k d lt u)) t)))
-        (λ f. f)
-        (cases-bool (before (rank (getD xs k d)) q)))
+      ⊎-elim
+      (λ t. absurd (both-ways _ here (upto-before (rank (getD xs m d)) (rank (getD xs k d)) q (not-true _ (pairwise-at (λ x y. not (before (rank y) (rank x))) xs ord m k d lt u)) t)))
+      (λ f. f)
+      (cases-bool (before (rank (getD xs k d)) q)))
       (λ ge. let e : m ≡ k = omega arith in subst (λ i. before (rank (getD xs i d)) q ≡ false) e here)
       (cases-lt m k)

@@ -48,19 +48,19 @@ module _ {X : Type 0} (rank : X → List ℕ) where
       (λ b. absurd (some-none x _ (here x xs) (e x ∙ none-at x (y ∷ ys) (b, after-all x y ys b (q .0)))))
       (⊎-elim
       (λ s.
-        let level = same-eq (rank x) (rank y) s in
-        let first : x ≡ y = some-same x y _ (here x xs) (e x ∙ subst (λ r. at rank r (y ∷ ys) ≡ Some y) (sym level) (here y ys)) in
-        let rest : xs ≡ ys = unique-rising xs ys (p .1) (q .1) (λ z.
-          ⊎-elim
-          (λ t.
-            let lx = same-eq (rank x) (rank z) t in
-            let ly : rank y ≡ rank z = sym level ∙ lx in
-            (ap (λ r. at rank r xs) (sym lx) ∙ none-at x xs (p .0)) ∙ sym (ap (λ r. at rank r ys) (sym ly) ∙ none-at y ys (q .0)))
-          (λ t.
-            let u : same (rank y) (rank z) ≡ false = rw (sym level) t in
-            sym (cond-false _ _ _ t) ∙ e z ∙ cond-false _ _ _ u)
-          (cases-bool (same (rank x) (rank z)))) in
-        cc)
+      let level = same-eq (rank x) (rank y) s in
+      let first : x ≡ y = some-same x y _ (here x xs) (e x ∙ subst (λ r. at rank r (y ∷ ys) ≡ Some y) (sym level) (here y ys)) in
+      let rest : xs ≡ ys = unique-rising xs ys (p .1) (q .1) (λ z.
+      ⊎-elim
+      (λ t.
+      let lx = same-eq (rank x) (rank z) t in
+      let ly : rank y ≡ rank z = sym level ∙ lx in
+      (ap (λ r. at rank r xs) (sym lx) ∙ none-at x xs (p .0)) ∙ sym (ap (λ r. at rank r ys) (sym ly) ∙ none-at y ys (q .0)))
+      (λ t.
+      let u : same (rank y) (rank z) ≡ false = rw (sym level) t in
+      sym (cond-false _ _ _ t) ∙ e z ∙ cond-false _ _ _ u)
+      (cases-bool (same (rank x) (rank z)))) in
+      cc)
       (λ b. absurd (some-none y _ (here y ys) (sym (e y) ∙ none-at y (x ∷ xs) (b, after-all y x xs b (p .0))))))
       (cases-rank (rank x) (rank y))
 
@@ -91,11 +91,11 @@ module _ {X : Type 0} (rank : X → List ℕ) where
       (λ b. let t = tally-here x xs in let n = tally-none x (y ∷ ys) (b, upto-after x y ys b (q .0)) in let u = e x in absurd (omega arith))
       (⊎-elim
       (λ s.
-        let first = one x y (same-eq (rank x) (rank y) s) in
-        let rest : xs ≡ ys = unique-in-order one xs ys (p .1) (q .1) (λ z.
-          let u = e z in
-          let c : _≡_ {A = ℕ} (cond (same (rank x) (rank z)) 1 0) (cond (same (rank y) (rank z)) 1 0) = ap (λ r. cond (same r (rank z)) 1 0) (same-eq (rank x) (rank y) s) in
-          omega arith) in
-        cc)
+      let first = one x y (same-eq (rank x) (rank y) s) in
+      let rest : xs ≡ ys = unique-in-order one xs ys (p .1) (q .1) (λ z.
+      let u = e z in
+      let c : _≡_ {A = ℕ} (cond (same (rank x) (rank z)) 1 0) (cond (same (rank y) (rank z)) 1 0) = ap (λ r. cond (same r (rank z)) 1 0) (same-eq (rank x) (rank y) s) in
+      omega arith) in
+      cc)
       (λ b. let t = tally-here y ys in let n = tally-none y (x ∷ xs) (b, upto-after y x xs b (p .0)) in let u = e y in absurd (omega arith)))
       (cases-rank (rank x) (rank y))

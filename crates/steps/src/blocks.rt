@@ -51,7 +51,11 @@ fn open_block(item: u32, new: &SectionContribution) -> Result<Contribution, Refu
 }
 
 // The block that goes on up to the end of a contribution of its section and module.
-fn extend_block(current: Contribution, item: u32, new: &SectionContribution) -> Result<Contribution, Refusal>
+fn extend_block(
+    current: Contribution,
+    item: u32,
+    new: &SectionContribution,
+) -> Result<Contribution, Refusal>
     ensures refused { λ r. ⌜ errPart r ≡ or-else (cond (ltb top (end-of (now (new .entry)))) (Some (ContributionOutside item)) None) (cond (ltb (now (new .entry) .offset .offset) (current .start) || ltb (end-of (now (new .entry))) (current .end)) (Some (Unordered item (now (new .entry) .«module») (now (new .entry) .offset .section))) None) ⌝ }
     ensures grown { λ r. ⌜ made r (λ b. b ≡ grown current (now (new .entry))) ⌝ }
 {
@@ -86,7 +90,10 @@ fn close_block(contributions: &mut Table<Contribution>, block: Contribution) -> 
 }
 
 // Closes the block that is open at the end of the list.
-fn close_last(contributions: &mut Table<Contribution>, current: Option<Contribution>) -> Result<(), Refusal>
+fn close_last(
+    contributions: &mut Table<Contribution>,
+    current: Option<Contribution>,
+) -> Result<(), Refusal>
     ensures refused { λ r. ⌜ ((bs old : List Row) → Filed (drop 1 bs) old (now (now (contributions .entry) .rows)) (now (contributions .entry) .count) → current ≡ nth bs 0 → errPart r ≡ cond (ltb (length old) (length bs)) (Some ContributionTableFull) None) ⌝ }
     ensures closed { λ r. ⌜ ((bs old : List Row) → Filed (drop 1 bs) old (now (now (contributions .entry) .rows)) (now (contributions .entry) .count) → current ≡ nth bs 0 → isOk r ≡ true → Filed bs old (now (now (contributions .exit) .rows)) (now (contributions .exit) .count)) ⌝ }
     ensures lender { λ _. ⌜ name (now (contributions .exit) .rows) ≡ name (now (contributions .entry) .rows) ⌝ }
@@ -99,7 +106,13 @@ fn close_last(contributions: &mut Table<Contribution>, current: Option<Contribut
 }
 
 // One contribution that counts; answers the block that is open after it.
-fn add_contribution(starts: &mut Table<KnownStart>, contributions: &mut Table<Contribution>, current: Option<Contribution>, item: u32, new: SectionContribution) -> Result<Contribution, Refusal>
+fn add_contribution(
+    starts: &mut Table<KnownStart>,
+    contributions: &mut Table<Contribution>,
+    current: Option<Contribution>,
+    item: u32,
+    new: SectionContribution,
+) -> Result<Contribution, Refusal>
     ensures refused { λ r. ⌜ ((symbols : List Start) (cs : List Item) (old : List Start) (rows : List Row) → Reading symbols cs old (now (now (starts .entry) .rows)) (now (starts .entry) .count) rows (now (now (contributions .entry) .rows)) (now (contributions .entry) .count) current → errPart r ≡ item-refusal (length old) (length rows) symbols cs item new) ⌝ }
     ensures read { λ r. ⌜ ((symbols : List Start) (cs : List Item) (old : List Start) (rows : List Row) → Reading symbols cs old (now (now (starts .entry) .rows)) (now (starts .entry) .count) rows (now (now (contributions .entry) .rows)) (now (contributions .entry) .count) current → 0 < new .size → made r (λ b. Reading symbols (cs ++ new ∷ []) old (now (now (starts .exit) .rows)) (now (starts .exit) .count) rows (now (now (contributions .exit) .rows)) (now (contributions .exit) .count) (Some b))) ⌝ }
     ensures starts_lender { λ _. ⌜ name (now (starts .exit) .rows) ≡ name (now (starts .entry) .rows) ⌝ }
@@ -123,7 +136,12 @@ fn add_contribution(starts: &mut Table<KnownStart>, contributions: &mut Table<Co
 }
 
 // The contributions as blocks, and the starts that they add.
-pub(crate) fn read_contributions<S: ImageSource>(source: &S, sections: &Sections, starts: &mut Table<KnownStart>, contributions: &mut Table<Contribution>) -> Result<(), Refusal>
+pub(crate) fn read_contributions<S: ImageSource>(
+    source: &S,
+    sections: &Sections,
+    starts: &mut Table<KnownStart>,
+    contributions: &mut Table<Contribution>,
+) -> Result<(), Refusal>
     ensures refused { λ r. ⌜ ((old : List Start) (rows : List Row) → used (now (sections .entry)) ≡ S·ImageSource .image (now (source .entry)) .sections → Holds (all-symbols (S·ImageSource .image (now (source .entry)))) old (now (now (starts .entry) .rows)) (now (starts .entry) .count) → Filed [] rows (now (now (contributions .entry) .rows)) (now (contributions .entry) .count) → errPart r ≡ contributions-refused (S·ImageSource .image (now (source .entry))) (length old) (length rows)) ⌝ }
     ensures read { λ r. ⌜ ((old : List Start) (rows : List Row) → used (now (sections .entry)) ≡ S·ImageSource .image (now (source .entry)) .sections → Holds (all-symbols (S·ImageSource .image (now (source .entry)))) old (now (now (starts .entry) .rows)) (now (starts .entry) .count) → Filed [] rows (now (now (contributions .entry) .rows)) (now (contributions .entry) .count) → isOk r ≡ true → Holds (all-symbols (S·ImageSource .image (now (source .entry))) ++ contribution-starts (all-kept (S·ImageSource .image (now (source .entry))))) old (now (now (starts .exit) .rows)) (now (starts .exit) .count) × Filed (blocks (all-kept (S·ImageSource .image (now (source .entry))))) rows (now (now (contributions .exit) .rows)) (now (contributions .exit) .count) × Proper (blocks (all-kept (S·ImageSource .image (now (source .entry)))))) ⌝ }
     ensures starts_lender { λ _. ⌜ name (now (starts .exit) .rows) ≡ name (now (starts .entry) .rows) ⌝ }
@@ -137,7 +155,13 @@ pub(crate) fn read_contributions<S: ImageSource>(source: &S, sections: &Sections
         match source.contribution(item) {
             Entry::Item(contribution) => {
                 if sections.keeps(&contribution) {
-                    let block = add_contribution(starts, contributions, current, item, contribution)?;
+                    let block = add_contribution(
+                        starts,
+                        contributions,
+                        current,
+                        item,
+                        contribution,
+                    )?;
                     current = Some(block);
                 }
                 item += 1;

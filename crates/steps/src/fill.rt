@@ -23,7 +23,11 @@ use image::ImageSource;
 use table::Table;
 
 // Fills two tables of which no row is used yet; answers the sections.
-pub fn fill<S: ImageSource>(source: &S, starts: &mut Table<KnownStart>, contributions: &mut Table<Contribution>) -> Result<Sections, Refusal>
+pub fn fill<S: ImageSource>(
+    source: &S,
+    starts: &mut Table<KnownStart>,
+    contributions: &mut Table<Contribution>,
+) -> Result<Sections, Refusal>
     ensures refused { λ r. ⌜ ((old : List Start) (rows : List Row) → Holds [] old (now (now (starts .entry) .rows)) (now (starts .entry) .count) → Filed [] rows (now (now (contributions .entry) .rows)) (now (contributions .entry) .count) → refused r (λ e. Outcome (S·ImageSource .image (now (source .entry))) (length old) (length rows) (Err e))) ⌝ }
     ensures filled { λ r. ⌜ ((old : List Start) (rows : List Row) → Holds [] old (now (now (starts .entry) .rows)) (now (starts .entry) .count) → Filed [] rows (now (now (contributions .entry) .rows)) (now (contributions .entry) .count) → made r (λ s. Filled (S·ImageSource .image (now (source .entry))) (used s) old (now (now (starts .exit) .rows)) (now (starts .exit) .count) rows (now (now (contributions .exit) .rows)) (now (contributions .exit) .count))) ⌝ }
     ensures starts_lender { λ _. ⌜ name (now (starts .exit) .rows) ≡ name (now (starts .entry) .rows) ⌝ }

@@ -28,7 +28,11 @@ use image::ImageSource;
 use table::Full;
 use table::Table;
 
-pub(crate) fn add_start(starts: &mut Table<KnownStart>, start: KnownStart, step: Step) -> Result<(), Refusal>
+pub(crate) fn add_start(
+    starts: &mut Table<KnownStart>,
+    start: KnownStart,
+    step: Step,
+) -> Result<(), Refusal>
     ensures refused { λ r. ⌜ ((cs old : List Start) → Holds cs old (now (now (starts .entry) .rows)) (now (starts .entry) .count) → errPart r ≡ cond (ltb (length old) (offset-count (cs ++ start ∷ []))) (Some (StartTableFull step)) None) ⌝ }
     ensures added { λ r. ⌜ ((cs old : List Start) → Holds cs old (now (now (starts .entry) .rows)) (now (starts .entry) .count) → isOk r ≡ true → Holds (cs ++ start ∷ []) old (now (now (starts .exit) .rows)) (now (starts .exit) .count)) ⌝ }
     ensures lender { λ _. ⌜ name (now (starts .exit) .rows) ≡ name (now (starts .entry) .rows) ⌝ }
@@ -50,7 +54,11 @@ pub(crate) fn end_list(list: FaultyList, ending: Ending) -> Result<(), Refusal>
 }
 
 // The named starts of the public symbols.
-pub(crate) fn read_public_symbols<S: ImageSource>(source: &S, sections: &Sections, starts: &mut Table<KnownStart>) -> Result<(), Refusal>
+pub(crate) fn read_public_symbols<S: ImageSource>(
+    source: &S,
+    sections: &Sections,
+    starts: &mut Table<KnownStart>,
+) -> Result<(), Refusal>
     ensures refused { λ r. ⌜ ((old : List Start) → Holds [] old (now (now (starts .entry) .rows)) (now (starts .entry) .count) → errPart r ≡ or-else (cond (ltb (length old) (offset-count (symbol-starts (used (now (sections .entry))) (S·ImageSource .image (now (source .entry)) .symbols)))) (Some (StartTableFull ReadPublicSymbols)) None) (fault PublicSymbols (S·ImageSource .image (now (source .entry)) .symbols-end))) ⌝ }
     ensures read { λ r. ⌜ ((old : List Start) → Holds [] old (now (now (starts .entry) .rows)) (now (starts .entry) .count) → isOk r ≡ true → Holds (symbol-starts (used (now (sections .entry))) (S·ImageSource .image (now (source .entry)) .symbols)) old (now (now (starts .exit) .rows)) (now (starts .exit) .count)) ⌝ }
     ensures lender { λ _. ⌜ name (now (starts .exit) .rows) ≡ name (now (starts .entry) .rows) ⌝ }
@@ -75,7 +83,10 @@ pub(crate) fn read_public_symbols<S: ImageSource>(source: &S, sections: &Section
 }
 
 // An unnamed start at the end of each executable section.
-pub(crate) fn add_section_ends(sections: &Sections, starts: &mut Table<KnownStart>) -> Result<(), Refusal>
+pub(crate) fn add_section_ends(
+    sections: &Sections,
+    starts: &mut Table<KnownStart>,
+) -> Result<(), Refusal>
     ensures refused { λ r. ⌜ ((cs old : List Start) → Holds cs old (now (now (starts .entry) .rows)) (now (starts .entry) .count) → errPart r ≡ cond (ltb (length old) (offset-count (cs ++ section-ends 1 (used (now (sections .entry)))))) (Some (StartTableFull AddSectionEnds)) None) ⌝ }
     ensures added { λ r. ⌜ ((cs old : List Start) → Holds cs old (now (now (starts .entry) .rows)) (now (starts .entry) .count) → isOk r ≡ true → Holds (cs ++ section-ends 1 (used (now (sections .entry)))) old (now (now (starts .exit) .rows)) (now (starts .exit) .count)) ⌝ }
     ensures lender { λ _. ⌜ name (now (starts .exit) .rows) ≡ name (now (starts .entry) .rows) ⌝ }

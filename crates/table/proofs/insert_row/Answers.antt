@@ -80,4 +80,3 @@ returns-in-Both-2 g c ord =
     let room = ltb-false used (length rows) (sym (c .has-room .ensures) ∙ c .if-has-room .left) in
     settled-used rank meets rows used (c .args .count) row None rows same
     (settled-full rank meets rows used row place few within room (subst (λ xs. placed rank meets row xs ≡ inserted xs place row) cut (c .in-Both .ensures tt .met there)))
-

@@ -14,11 +14,11 @@ pub loop-start-again : need.loop-start-again
 loop-start-again c =
     let more = length-kept-by-more named (c .args .starts .now) (c .loop-start .start-index) no-start (c .loop-start-test .taken) in
     elim (c .if-is-some .came) [
-      then-is-some w ↦ (
+      | then-is-some w ↦ (
         omega (arith, w .count-is),
         (let one : _≡_ {A = ℕ} (cond (named (getD (c .args .starts .now) (c .loop-start .start-index) no-start)) 1 0) 1 = ap (λ b. cond b 1 0) (sym (w .if-is-some .ensures tt)) in omega (arith, w .count-is, c .loop-start .inv .1)),
       )
-    | else-is-some w ↦ (
+      | else-is-some w ↦ (
         omega (arith, w .count-is),
         (let none : _≡_ {A = ℕ} (cond (named (getD (c .args .starts .now) (c .loop-start .start-index) no-start)) 1 0) 0 = ap (λ b. cond b 1 0) (sym (w .if-is-some .ensures tt)) in omega (arith, w .count-is, c .loop-start .inv .1)),
       )

@@ -38,12 +38,12 @@ returns-in-rest c =
     let new = c .args .new in
     record {
       refused = λ symbols cs old rows h.
-        c .open-block .ensures .refused ∙ sym (first-refused symbols cs old (s .rows .now) (s .count) rows (t .rows .now) (t .count) (c .args .item) new (subst (Reading symbols cs old (s .rows .now) (s .count) rows (t .rows .now) (t .count)) (c .in-rest .is) h));
+          c .open-block .ensures .refused ∙ sym (first-refused symbols cs old (s .rows .now) (s .count) rows (t .rows .now) (t .count) (c .args .item) new (subst (Reading symbols cs old (s .rows .now) (s .count) rows (t .rows .now) (t .count)) (c .in-rest .is) h));
       read = λ symbols cs old rows h size.
-        made-weaker (c .open-block .result) (λ b. b ≡ block new) _
-        (λ b e. subst (λ v. Reading symbols (cs ++ new ∷ []) old (s .rows .now) (s .count) rows (t .rows .now) (t .count) (Some v)) (sym e)
+          made-weaker (c .open-block .result) (λ b. b ≡ block new) _
+          (λ b e. subst (λ v. Reading symbols (cs ++ new ∷ []) old (s .rows .now) (s .count) rows (t .rows .now) (t .count) (Some v)) (sym e)
           (first-read symbols cs old (s .rows .now) (s .count) rows (t .rows .now) (t .count) (c .args .item) new (subst (Reading symbols cs old (s .rows .now) (s .count) rows (t .rows .now) (t .count)) (c .in-rest .is) h) size))
-        (c .open-block .ensures .opened);
+          (c .open-block .ensures .opened);
       starts-lender = refl;
       starts-long = refl;
       contributions-lender = refl;
@@ -57,10 +57,10 @@ returns-in-Break-add-start c =
     let p = err-from-errBy (c .from-residual .result) (c .from-residual .ensures .1) in
     record {
       refused = λ symbols cs old rows h.
-        let h′ : Reading symbols cs old (s .rows .now) (s .count) rows (t .rows .now) (t .count) (Some (c .in-Some .block)) = subst (Reading symbols cs old (s .rows .now) (s .count) rows (t .rows .now) (t .count)) (c .in-Some .is) h in
-        passed (c .from-residual .result) (p .0) _ (p .1) (p .2) ∙
-        later-full symbols cs old (s .rows .now) (s .count) rows (t .rows .now) (t .count) (c .args .item) (c .args .new) (c .in-Some .block) h′ _
-        (c .in-Break-add-start .ensures tt .refused _ old (h′ .starts-hold));
+          let h′ : Reading symbols cs old (s .rows .now) (s .count) rows (t .rows .now) (t .count) (Some (c .in-Some .block)) = subst (Reading symbols cs old (s .rows .now) (s .count) rows (t .rows .now) (t .count)) (c .in-Some .is) h in
+          passed (c .from-residual .result) (p .0) _ (p .1) (p .2) ∙
+          later-full symbols cs old (s .rows .now) (s .count) rows (t .rows .now) (t .count) (c .args .item) (c .args .new) (c .in-Some .block) h′ _
+          (c .in-Break-add-start .ensures tt .refused _ old (h′ .starts-hold));
       read = λ symbols cs old rows h size. none-made (c .from-residual .result) (p .0) _ (p .1);
       starts-lender = c .add-start .ensures .lender;
       starts-long = c .add-start .ensures .long;
@@ -77,17 +77,17 @@ returns-then-block-new-2 c =
     let joined : joins b new ≡ true = and-from _ _ (eq-eqb (b .section) (new .offset .section) (c .if-block-new .taken)) (eq-eqb (b .«module») (new .«module») (c .if-block-new-2 .taken)) in
     record {
       refused = λ symbols cs old rows h.
-        let h′ : Reading symbols cs old (s .rows .now) (s .count) rows (t .rows .now) (t .count) (Some b) = subst (Reading symbols cs old (s .rows .now) (s .count) rows (t .rows .now) (t .count)) (c .in-Some .is) h in
-        later-joined symbols cs old (s .rows .now) (s .count) rows (t .rows .now) (t .count) (c .args .item) new b h′ (errPart (c .extend-block .result))
-        (c .in-Continue-add-start .ensures tt .refused _ old (h′ .starts-hold)) joined (c .extend-block .ensures .refused);
+          let h′ : Reading symbols cs old (s .rows .now) (s .count) rows (t .rows .now) (t .count) (Some b) = subst (Reading symbols cs old (s .rows .now) (s .count) rows (t .rows .now) (t .count)) (c .in-Some .is) h in
+          later-joined symbols cs old (s .rows .now) (s .count) rows (t .rows .now) (t .count) (c .args .item) new b h′ (errPart (c .extend-block .result))
+          (c .in-Continue-add-start .ensures tt .refused _ old (h′ .starts-hold)) joined (c .extend-block .ensures .refused);
       read = λ symbols cs old rows h size.
-        let h′ : Reading symbols cs old (s .rows .now) (s .count) rows (t .rows .now) (t .count) (Some b) = subst (Reading symbols cs old (s .rows .now) (s .count) rows (t .rows .now) (t .count)) (c .in-Some .is) h in
-        made-since (c .extend-block .result) _ (λ x. x ≡ grown b new) _ (c .extend-block .ensures .refused) (c .extend-block .ensures .grown)
-        (λ x none e.
+          let h′ : Reading symbols cs old (s .rows .now) (s .count) rows (t .rows .now) (t .count) (Some b) = subst (Reading symbols cs old (s .rows .now) (s .count) rows (t .rows .now) (t .count)) (c .in-Some .is) h in
+          made-since (c .extend-block .result) _ (λ x. x ≡ grown b new) _ (c .extend-block .ensures .refused) (c .extend-block .ensures .grown)
+          (λ x none e.
           subst (λ v. Reading symbols (cs ++ new ∷ []) old (c .add-start .last .starts .rows .now) (c .add-start .last .starts .count) rows (t .rows .now) (t .count) (Some v)) (sym e)
           (joined-read symbols cs old (s .rows .now) (s .count) rows (t .rows .now) (t .count) (c .args .item) new b h′ _ _
-            (c .in-Continue-add-start .ensures tt .added _ old (h′ .starts-hold) refl) joined size
-            (joined-start symbols cs old (s .rows .now) (s .count) rows (t .rows .now) (t .count) (c .args .item) new b h′ none)));
+          (c .in-Continue-add-start .ensures tt .added _ old (h′ .starts-hold) refl) joined size
+          (joined-start symbols cs old (s .rows .now) (s .count) rows (t .rows .now) (t .count) (c .args .item) new b h′ none)));
       starts-lender = c .add-start .ensures .lender;
       starts-long = c .add-start .ensures .long;
       contributions-lender = refl;
@@ -103,11 +103,11 @@ returns-in-Break-close-block c =
     let p = err-from-errBy (c .from-residual-in-Break-close-block .result) (c .from-residual-in-Break-close-block .ensures .1) in
     record {
       refused = λ symbols cs old rows h.
-        let h′ : Reading symbols cs old (s .rows .now) (s .count) rows (t .rows .now) (t .count) (Some b) = subst (Reading symbols cs old (s .rows .now) (s .count) rows (t .rows .now) (t .count)) (c .in-Some .is) h in
-        passed (c .from-residual-in-Break-close-block .result) (p .0) _ (p .1) (p .2) ∙
-        later-no-room symbols cs old (s .rows .now) (s .count) rows (t .rows .now) (t .count) (c .args .item) new b h′ _
-        (c .in-Continue-add-start .ensures tt .refused _ old (h′ .starts-hold)) (apart-of b new (c .else-block-new .either))
-        (c .in-Break-close-block .ensures tt .refused _ rows (h′ .closed));
+          let h′ : Reading symbols cs old (s .rows .now) (s .count) rows (t .rows .now) (t .count) (Some b) = subst (Reading symbols cs old (s .rows .now) (s .count) rows (t .rows .now) (t .count)) (c .in-Some .is) h in
+          passed (c .from-residual-in-Break-close-block .result) (p .0) _ (p .1) (p .2) ∙
+          later-no-room symbols cs old (s .rows .now) (s .count) rows (t .rows .now) (t .count) (c .args .item) new b h′ _
+          (c .in-Continue-add-start .ensures tt .refused _ old (h′ .starts-hold)) (apart-of b new (c .else-block-new .either))
+          (c .in-Break-close-block .ensures tt .refused _ rows (h′ .closed));
       read = λ symbols cs old rows h size. none-made (c .from-residual-in-Break-close-block .result) (p .0) _ (p .1);
       starts-lender = c .add-start .ensures .lender;
       starts-long = c .add-start .ensures .long;
@@ -124,19 +124,19 @@ returns c =
     let apart = apart-of b new (c .else-block-new .either) in
     record {
       refused = λ symbols cs old rows h.
-        let h′ : Reading symbols cs old (s .rows .now) (s .count) rows (t .rows .now) (t .count) (Some b) = subst (Reading symbols cs old (s .rows .now) (s .count) rows (t .rows .now) (t .count)) (c .in-Some .is) h in
-        later-opened symbols cs old (s .rows .now) (s .count) rows (t .rows .now) (t .count) (c .args .item) new b h′ (errPart (c .open-block-2 .result))
-        (c .in-Continue-add-start .ensures tt .refused _ old (h′ .starts-hold)) apart
-        (c .in-Continue-close-block .ensures tt .refused _ rows (h′ .closed)) (c .open-block-2 .ensures .refused);
+          let h′ : Reading symbols cs old (s .rows .now) (s .count) rows (t .rows .now) (t .count) (Some b) = subst (Reading symbols cs old (s .rows .now) (s .count) rows (t .rows .now) (t .count)) (c .in-Some .is) h in
+          later-opened symbols cs old (s .rows .now) (s .count) rows (t .rows .now) (t .count) (c .args .item) new b h′ (errPart (c .open-block-2 .result))
+          (c .in-Continue-add-start .ensures tt .refused _ old (h′ .starts-hold)) apart
+          (c .in-Continue-close-block .ensures tt .refused _ rows (h′ .closed)) (c .open-block-2 .ensures .refused);
       read = λ symbols cs old rows h size.
-        let h′ : Reading symbols cs old (s .rows .now) (s .count) rows (t .rows .now) (t .count) (Some b) = subst (Reading symbols cs old (s .rows .now) (s .count) rows (t .rows .now) (t .count)) (c .in-Some .is) h in
-        made-weaker (c .open-block-2 .result) (λ x. x ≡ block new) _
-        (λ x e.
+          let h′ : Reading symbols cs old (s .rows .now) (s .count) rows (t .rows .now) (t .count) (Some b) = subst (Reading symbols cs old (s .rows .now) (s .count) rows (t .rows .now) (t .count)) (c .in-Some .is) h in
+          made-weaker (c .open-block-2 .result) (λ x. x ≡ block new) _
+          (λ x e.
           subst (λ v. Reading symbols (cs ++ new ∷ []) old (c .add-start .last .starts .rows .now) (c .add-start .last .starts .count) rows (c .close-block .last .contributions .rows .now) (c .close-block .last .contributions .count) (Some v)) (sym e)
           (opened-read symbols cs old (s .rows .now) (s .count) rows (t .rows .now) (t .count) (c .args .item) new b h′ _ _ _ _
-            (c .in-Continue-add-start .ensures tt .added _ old (h′ .starts-hold) refl)
-            (c .in-Continue-close-block .ensures tt .added _ rows (h′ .closed) refl) apart size))
-        (c .open-block-2 .ensures .opened);
+          (c .in-Continue-add-start .ensures tt .added _ old (h′ .starts-hold) refl)
+          (c .in-Continue-close-block .ensures tt .added _ rows (h′ .closed) refl) apart size))
+          (c .open-block-2 .ensures .opened);
       starts-lender = c .add-start .ensures .lender;
       starts-long = c .add-start .ensures .long;
       contributions-lender = c .close-block .ensures .lender;

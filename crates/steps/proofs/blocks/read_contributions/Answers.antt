@@ -55,10 +55,10 @@ returns-in-Break-block g c =
     let p = err-from-errBy (c .from-residual .result) (c .from-residual .ensures .1) in
     record {
       refused = λ old rows same h f.
-        let inv = c .loop-contribution .inv .1 old rows same h f in
-        let counts : keeps (i .sections) new ≡ true = subst (λ ss. keeps ss new ≡ true) same (sym (c .keeps .ensures) ∙ c .if-keeps .taken) in
-        ap errPart (p .1) ∙ ap Some (p .2) ∙
-        sym (or-some _ _ _ (sym (inv .1) ∙ refused-here (contribution-refusal i (length old) (length rows)) (i .contributions) item new _ found
+          let inv = c .loop-contribution .inv .1 old rows same h f in
+          let counts : keeps (i .sections) new ≡ true = subst (λ ss. keeps ss new ≡ true) same (sym (c .keeps .ensures) ∙ c .if-keeps .taken) in
+          ap errPart (p .1) ∙ ap Some (p .2) ∙
+          sym (or-some _ _ _ (sym (inv .1) ∙ refused-here (contribution-refusal i (length old) (length rows)) (i .contributions) item new _ found
           (counted-refusal i (length old) (length rows) item new found counts ∙ sym (c .in-Break-block .ensures tt .refused (all-symbols i) _ old rows (inv .0)))));
       read = λ old rows same h f ok. absurd (never-ok (c .from-residual .result) (p .0) (p .1) ok);
       starts-lender = c .add-contribution .ensures .starts-lender ∙ c .loop-contribution .inv .2;
@@ -88,27 +88,29 @@ loop-contribution-again g c =
     let found : nth (i .contributions) item ≡ Some new = entry-item (i .contributions) (i .contributions-end) item new (sym (c .in-Item .ensures tt)) in
     let within : item < length (i .contributions) = item-within (i .contributions) item new found in
     elim (c .if-keeps .came) [
-      then-keeps·in-Continue-block w ↦ (
+      | then-keeps·in-Continue-block w ↦ (
         omega arith,
         λ old rows same h f.
-          let inv = c .loop-contribution .inv .1 old rows same h f in
-          let counts : keeps (i .sections) new ≡ true = subst (λ ss. keeps ss new ≡ true) same (sym (c .keeps .ensures) ∙ w .if-keeps .taken) in
-          let read = w .in-Continue-block .ensures tt .read (all-symbols i) (kept (i .sections) (take item (i .contributions))) old rows (inv .0) (counted-size i (length old) (length rows) item new found counts) in
-          (moved (all-symbols i) _ _ old (w .add-contribution .last .starts) (c .if-keeps .starts) rows (w .add-contribution .last .contributions) (c .if-keeps .contributions) _ _ (kept-more-by i (length old) (length rows) item new found counts) (w .starts-is) (w .contributions-is) (w .current-is) read,
-          sym (refused-on (contribution-refusal i (length old) (length rows)) (i .contributions) item new found
-            (counted-refusal i (length old) (length rows) item new found counts ∙ sym (w .in-Continue-block .ensures tt .refused (all-symbols i) _ old rows (inv .0)))) ∙ inv .1),
+            let inv = c .loop-contribution .inv .1 old rows same h f in
+            let counts : keeps (i .sections) new ≡ true = subst (λ ss. keeps ss new ≡ true) same (sym (c .keeps .ensures) ∙ w .if-keeps .taken) in
+            let read = w .in-Continue-block .ensures tt .read (all-symbols i) (kept (i .sections) (take item (i .contributions))) old rows (inv .0) (counted-size i (length old) (length rows) item new found counts) in (
+              moved (all-symbols i) _ _ old (w .add-contribution .last .starts) (c .if-keeps .starts) rows (w .add-contribution .last .contributions) (c .if-keeps .contributions) _ _ (kept-more-by i (length old) (length rows) item new found counts) (w .starts-is) (w .contributions-is) (w .current-is) read,
+              sym (refused-on (contribution-refusal i (length old) (length rows)) (i .contributions) item new found
+                  (counted-refusal i (length old) (length rows) item new found counts ∙ sym (w .in-Continue-block .ensures tt .refused (all-symbols i) _ old rows (inv .0)))) ∙ inv .1,
+            ),
         ap (λ t. name (t .rows)) (w .starts-is) ∙ w .add-contribution .ensures .starts-lender ∙ c .loop-contribution .inv .2,
         ap (λ t. name (t .rows)) (w .contributions-is) ∙ w .add-contribution .ensures .contributions-lender ∙ c .loop-contribution .inv .3,
         ap (λ t. length (t .rows .now)) (w .starts-is) ∙ w .add-contribution .ensures .starts-long ∙ c .loop-contribution .inv .4,
         ap (λ t. length (t .rows .now)) (w .contributions-is) ∙ w .add-contribution .ensures .contributions-long ∙ c .loop-contribution .inv .5,
       )
-    | else-keeps w ↦ (
+      | else-keeps w ↦ (
         omega arith,
         λ old rows same h f.
-          let inv = c .loop-contribution .inv .1 old rows same h f in
-          let skipped : keeps (i .sections) new ≡ false = subst (λ ss. keeps ss new ≡ false) same (sym (c .keeps .ensures) ∙ w .if-keeps .left) in
-          (moved (all-symbols i) _ _ old (c .loop-contribution .starts) (c .if-keeps .starts) rows (c .loop-contribution .contributions) (c .if-keeps .contributions) _ _ (kept-as-before i (length old) (length rows) item new found skipped) (w .starts-is) (w .contributions-is) (w .current-is) (inv .0),
-          sym (refused-on (contribution-refusal i (length old) (length rows)) (i .contributions) item new found (skipped-refusal i (length old) (length rows) item new found skipped)) ∙ inv .1),
+            let inv = c .loop-contribution .inv .1 old rows same h f in
+            let skipped : keeps (i .sections) new ≡ false = subst (λ ss. keeps ss new ≡ false) same (sym (c .keeps .ensures) ∙ w .if-keeps .left) in (
+              moved (all-symbols i) _ _ old (c .loop-contribution .starts) (c .if-keeps .starts) rows (c .loop-contribution .contributions) (c .if-keeps .contributions) _ _ (kept-as-before i (length old) (length rows) item new found skipped) (w .starts-is) (w .contributions-is) (w .current-is) (inv .0),
+              sym (refused-on (contribution-refusal i (length old) (length rows)) (i .contributions) item new found (skipped-refusal i (length old) (length rows) item new found skipped)) ∙ inv .1,
+            ),
         ap (λ t. name (t .rows)) (w .starts-is) ∙ c .loop-contribution .inv .2,
         ap (λ t. name (t .rows)) (w .contributions-is) ∙ c .loop-contribution .inv .3,
         ap (λ t. length (t .rows .now)) (w .starts-is) ∙ c .loop-contribution .inv .4,
@@ -124,9 +126,9 @@ returns-in-Break-end-list g c =
     let p = err-from-errBy (c .from-residual-in-Break-end-list .result) (c .from-residual-in-Break-end-list .ensures .1) in
     record {
       refused = λ old rows same h f.
-        let inv = c .loop-contribution .inv .1 old rows same h f in
-        ap errPart (p .1) ∙ ap Some (p .2) ∙
-        sym (or-none _ _ (sym (inv .1) ∙ refused-none (contribution-refusal i (length old) (length rows)) (i .contributions) item (end .0)) ∙
+          let inv = c .loop-contribution .inv .1 old rows same h f in
+          ap errPart (p .1) ∙ ap Some (p .2) ∙
+          sym (or-none _ _ (sym (inv .1) ∙ refused-none (contribution-refusal i (length old) (length rows)) (i .contributions) item (end .0)) ∙
           or-some _ _ _ (ap (fault Contributions) (end .1) ∙ sym (c .in-Break-end-list .ensures tt)));
       read = λ old rows same h f ok. absurd (never-ok (c .from-residual-in-Break-end-list .result) (p .0) (p .1) ok);
       starts-lender = c .loop-contribution .inv .2;
@@ -144,17 +146,17 @@ returns-in-End g c =
     let s = c .loop-contribution .starts in
     let t = c .loop-contribution .contributions in
     let all : (old : List KnownStart) (rows : List Contribution) → used (c .args .sections .now) ≡ i .sections → Holds (all-symbols i) old (c .args .starts .now .rows .now) (c .args .starts .now .count) → Filed [] rows (c .args .contributions .now .rows .now) (c .args .contributions .now .count) → Reading (all-symbols i) (all-kept i) old (s .rows .now) (s .count) rows (t .rows .now) (t .count) (c .loop-contribution .current) =
-        λ old rows same h f. subst (λ cs. Reading (all-symbols i) cs old (s .rows .now) (s .count) rows (t .rows .now) (t .count) (c .loop-contribution .current)) whole (c .loop-contribution .inv .1 old rows same h f .0) in
+    λ old rows same h f. subst (λ cs. Reading (all-symbols i) cs old (s .rows .now) (s .count) rows (t .rows .now) (t .count) (c .loop-contribution .current)) whole (c .loop-contribution .inv .1 old rows same h f .0) in
     record {
       refused = λ old rows same h f.
-        let inv = c .loop-contribution .inv .1 old rows same h f in
-        let r = all old rows same h f in
-        c .close-last .ensures .refused (blocks (all-kept i)) rows (r .closed) (r .open-block) ∙
-        sym (or-none _ _ (sym (inv .1) ∙ refused-none (contribution-refusal i (length old) (length rows)) (i .contributions) item (end .0)) ∙
+          let inv = c .loop-contribution .inv .1 old rows same h f in
+          let r = all old rows same h f in
+          c .close-last .ensures .refused (blocks (all-kept i)) rows (r .closed) (r .open-block) ∙
+          sym (or-none _ _ (sym (inv .1) ∙ refused-none (contribution-refusal i (length old) (length rows)) (i .contributions) item (end .0)) ∙
           or-none _ _ (ap (fault Contributions) (end .1) ∙ sym (c .in-Continue-end-list .ensures tt)));
       read = λ old rows same h f ok.
-        let r = all old rows same h f in
-        (r .starts-hold, c .close-last .ensures .closed (blocks (all-kept i)) rows (r .closed) (r .open-block) ok, r .proper);
+          let r = all old rows same h f in
+          (r .starts-hold, c .close-last .ensures .closed (blocks (all-kept i)) rows (r .closed) (r .open-block) ok, r .proper);
       starts-lender = c .loop-contribution .inv .2;
       starts-long = c .loop-contribution .inv .4;
       contributions-lender = c .close-last .ensures .lender ∙ c .loop-contribution .inv .3;

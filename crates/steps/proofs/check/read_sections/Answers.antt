@@ -29,8 +29,7 @@ loop-section-again g c =
     let found : nth sections item ≡ Some (c .in-Some .section) = sym (c .in-Some .ensures tt) in
     let within : item < length sections = item-within sections item (c .in-Some .section) found in
     let taken = or-parts (leb most-sections item) (ltb top (c .in-Some .section .address + c .in-Some .section .size)) (sym (c .is-outside .ensures) ∙ c .if-is-outside .left) in
-    let low : item < 96 = leb-false most-sections item (taken .0) in
-    (
+    let low : item < 96 = leb-false most-sections item (taken .0) in (
       omega arith,
       omega arith,
       length-set (c .loop-section .rows) item (c .in-Some .section) ∙ c .loop-section .inv .2,

@@ -50,7 +50,7 @@ returns-in-Break-read-public-symbols g c =
     let p = err-from-errBy r (c .from-residual-in-Break-read-public-symbols .ensures .1) in
     record {
       refused = λ old rows h f. passed r (p .0) _ (λ e. Outcome i (length old) (length rows) (Err e)) (p .1) (p .2)
-        (refused-symbols i (length old) (length rows) (sym (c .in-Continue-sections .ensures tt .refused)) _
+          (refused-symbols i (length old) (length rows) (sym (c .in-Continue-sections .ensures tt .refused)) _
           (sym (read-symbols i (length old) (length rows) (used s) _ same (c .in-Break-read-public-symbols .ensures tt .refused old h))));
       filled = λ old rows h f. none-made r (p .0) _ (p .1);
       starts-lender = c .read-public-symbols .ensures .lender;
@@ -68,10 +68,10 @@ returns-in-Break-read-contributions g c =
     let p = err-from-errBy r (c .from-residual-in-Break-read-contributions .ensures .1) in
     let after = c .read-public-symbols .last .starts in
     let held : (old : List KnownStart) → Holds [] old (c .args .starts .now .rows .now) (c .args .starts .now .count) → Holds (all-symbols i) old (after .rows .now) (after .count) =
-        λ old h. subst (λ ss. Holds (symbol-starts ss (i .symbols)) old (after .rows .now) (after .count)) same (c .in-Continue-read-public-symbols .ensures tt .read old h refl) in
+    λ old h. subst (λ ss. Holds (symbol-starts ss (i .symbols)) old (after .rows .now) (after .count)) same (c .in-Continue-read-public-symbols .ensures tt .read old h refl) in
     record {
       refused = λ old rows h f. passed r (p .0) _ (λ e. Outcome i (length old) (length rows) (Err e)) (p .1) (p .2)
-        (refused-contributions i (length old) (length rows) (sym (c .in-Continue-sections .ensures tt .refused))
+          (refused-contributions i (length old) (length rows) (sym (c .in-Continue-sections .ensures tt .refused))
           (sym (read-symbols i (length old) (length rows) (used s) _ same (c .in-Continue-read-public-symbols .ensures tt .refused old h))) _
           (sym (c .in-Break-read-contributions .ensures tt .refused old rows same (held old h) f)));
       filled = λ old rows h f. none-made r (p .0) _ (p .1);
@@ -90,10 +90,10 @@ returns-in-Break-check-overlaps g c =
     let p = err-from-errBy r (c .from-residual-in-Break-check-overlaps .ensures .1) in
     let after = c .read-public-symbols .last .starts in
     let held : (old : List KnownStart) → Holds [] old (c .args .starts .now .rows .now) (c .args .starts .now .count) → Holds (all-symbols i) old (after .rows .now) (after .count) =
-        λ old h. subst (λ ss. Holds (symbol-starts ss (i .symbols)) old (after .rows .now) (after .count)) same (c .in-Continue-read-public-symbols .ensures tt .read old h refl) in
+    λ old h. subst (λ ss. Holds (symbol-starts ss (i .symbols)) old (after .rows .now) (after .count)) same (c .in-Continue-read-public-symbols .ensures tt .read old h refl) in
     record {
       refused = λ old rows h f. passed r (p .0) _ (λ e. Outcome i (length old) (length rows) (Err e)) (p .1) (p .2)
-        (refused-overlap i (length old) (length rows) (sym (c .in-Continue-sections .ensures tt .refused))
+          (refused-overlap i (length old) (length rows) (sym (c .in-Continue-sections .ensures tt .refused))
           (sym (read-symbols i (length old) (length rows) (used s) _ same (c .in-Continue-read-public-symbols .ensures tt .refused old h)))
           (sym (c .in-Continue-read-contributions .ensures tt .refused old rows same (held old h) f)) _
           (c .in-Continue-read-contributions .ensures tt .read old rows same (held old h) f refl .1 .stands) _
@@ -114,12 +114,12 @@ returns-in-Break-add-section-ends g c =
     let p = err-from-errBy r (c .from-residual-in-Break-add-section-ends .ensures .1) in
     let after = c .read-public-symbols .last .starts in
     let held : (old : List KnownStart) → Holds [] old (c .args .starts .now .rows .now) (c .args .starts .now .count) → Holds (all-symbols i) old (after .rows .now) (after .count) =
-        λ old h. subst (λ ss. Holds (symbol-starts ss (i .symbols)) old (after .rows .now) (after .count)) same (c .in-Continue-read-public-symbols .ensures tt .read old h refl) in
+    λ old h. subst (λ ss. Holds (symbol-starts ss (i .symbols)) old (after .rows .now) (after .count)) same (c .in-Continue-read-public-symbols .ensures tt .read old h refl) in
     record {
       refused = λ old rows h f.
-        let read = c .in-Continue-read-contributions .ensures tt .read old rows same (held old h) f refl in
-        passed r (p .0) _ (λ e. Outcome i (length old) (length rows) (Err e)) (p .1) (p .2)
-        (refused-ends i (length old) (length rows) (sym (c .in-Continue-sections .ensures tt .refused))
+          let read = c .in-Continue-read-contributions .ensures tt .read old rows same (held old h) f refl in
+          passed r (p .0) _ (λ e. Outcome i (length old) (length rows) (Err e)) (p .1) (p .2)
+          (refused-ends i (length old) (length rows) (sym (c .in-Continue-sections .ensures tt .refused))
           (sym (read-symbols i (length old) (length rows) (used s) _ same (c .in-Continue-read-public-symbols .ensures tt .refused old h)))
           (sym (c .in-Continue-read-contributions .ensures tt .refused old rows same (held old h) f)) _
           (read .1 .stands) (sym (c .in-Continue-check-overlaps .ensures tt)) _
@@ -139,23 +139,23 @@ returns g c =
     let after = c .read-public-symbols .last .starts in
     let ended = c .add-section-ends .last .starts in
     let held : (old : List KnownStart) → Holds [] old (c .args .starts .now .rows .now) (c .args .starts .now .count) → Holds (all-symbols i) old (after .rows .now) (after .count) =
-        λ old h. subst (λ ss. Holds (symbol-starts ss (i .symbols)) old (after .rows .now) (after .count)) same (c .in-Continue-read-public-symbols .ensures tt .read old h refl) in
+    λ old h. subst (λ ss. Holds (symbol-starts ss (i .symbols)) old (after .rows .now) (after .count)) same (c .in-Continue-read-public-symbols .ensures tt .read old h refl) in
     record {
       refused = λ old rows h f. tt;
       filled = λ old rows h f.
-        let read = c .in-Continue-read-contributions .ensures tt .read old rows same (held old h) f refl in
-        let none = sym (c .in-Continue-check-overlaps .ensures tt) in
-        record {
-          same = same;
-          starts-hold = subst (λ ss. Holds ((all-symbols i ++ contribution-starts (all-kept i)) ++ section-ends 1 ss) old (ended .rows .now) (ended .count)) same (c .in-Continue-add-section-ends .ensures tt .added _ old (read .0) refl);
-          rows-filed = read .1;
-          granted = granted i (length old) (length rows) (sym (c .in-Continue-sections .ensures tt .refused))
-            (sym (read-symbols i (length old) (length rows) (used s) _ same (c .in-Continue-read-public-symbols .ensures tt .refused old h)))
-            (sym (c .in-Continue-read-contributions .ensures tt .refused old rows same (held old h) f)) _
-            (read .1 .stands) none
-            (sym (read-ends i (length old) (length rows) (used s) _ same (c .in-Continue-add-section-ends .ensures tt .refused _ old (read .0))));
-          rows-apart = apart-all _ (read .1 .stands .in-order) none (stands-all (λ b. b .start < b .end) (blocks (all-kept i)) _ (read .1 .stands) (read .2));
-        };
+          let read = c .in-Continue-read-contributions .ensures tt .read old rows same (held old h) f refl in
+          let none = sym (c .in-Continue-check-overlaps .ensures tt) in
+          record {
+            same = same;
+            starts-hold = subst (λ ss. Holds ((all-symbols i ++ contribution-starts (all-kept i)) ++ section-ends 1 ss) old (ended .rows .now) (ended .count)) same (c .in-Continue-add-section-ends .ensures tt .added _ old (read .0) refl);
+            rows-filed = read .1;
+            granted = granted i (length old) (length rows) (sym (c .in-Continue-sections .ensures tt .refused))
+                (sym (read-symbols i (length old) (length rows) (used s) _ same (c .in-Continue-read-public-symbols .ensures tt .refused old h)))
+                (sym (c .in-Continue-read-contributions .ensures tt .refused old rows same (held old h) f)) _
+                (read .1 .stands) none
+                (sym (read-ends i (length old) (length rows) (used s) _ same (c .in-Continue-add-section-ends .ensures tt .refused _ old (read .0))));
+            rows-apart = apart-all _ (read .1 .stands .in-order) none (stands-all (λ b. b .start < b .end) (blocks (all-kept i)) _ (read .1 .stands) (read .2));
+          };
       starts-lender = c .add-section-ends .ensures .lender ∙ c .read-contributions .ensures .starts-lender ∙ c .read-public-symbols .ensures .lender;
       starts-long = c .add-section-ends .ensures .long ∙ c .read-contributions .ensures .starts-long ∙ c .read-public-symbols .ensures .long;
       contributions-lender = c .read-contributions .ensures .contributions-lender;

@@ -34,11 +34,10 @@ loop-number-again-in-Continue· c =
     let s = c .args .sections .now in
     let k = c .loop-number .number in
     let few : s .count ≤ length (s .rows) = search needs in
-    let found : nth (used s) k ≡ Some (getD (s .rows) k none) = used-at (s .rows) (s .count) k none (c .loop-number-test .taken) few in
-    (
+    let found : nth (used s) k ≡ Some (getD (s .rows) k none) = used-at (s .rows) (s .count) k none (c .loop-number-test .taken) few in (
       omega arith,
       λ cs old h. subst (λ ss. Holds ss old (c .add-start .last .starts .rows .now) (c .add-start .last .starts .count)) (ends-kept cs (used s) k (getD (s .rows) k none) found (c .if-section .taken))
-        (c .in-Continue-add-start .ensures tt .added (cs ++ section-ends 1 (take k (used s))) old (c .loop-number .inv .1 cs old h) refl),
+          (c .in-Continue-add-start .ensures tt .added (cs ++ section-ends 1 (take k (used s))) old (c .loop-number .inv .1 cs old h) refl),
       c .add-start .ensures .lender ∙ c .loop-number .inv .2,
       c .add-start .ensures .long ∙ c .loop-number .inv .3,
     )
@@ -48,8 +47,7 @@ loop-number-again c =
     let s = c .args .sections .now in
     let k = c .loop-number .number in
     let few : s .count ≤ length (s .rows) = search needs in
-    let found : nth (used s) k ≡ Some (getD (s .rows) k none) = used-at (s .rows) (s .count) k none (c .loop-number-test .taken) few in
-    (
+    let found : nth (used s) k ≡ Some (getD (s .rows) k none) = used-at (s .rows) (s .count) k none (c .loop-number-test .taken) few in (
       omega arith,
       λ cs old h. subst (λ ss. Holds ss old (c .loop-number .starts .rows .now) (c .loop-number .starts .count)) (ends-skipped cs (used s) k (getD (s .rows) k none) found (c .if-section .left)) (c .loop-number .inv .1 cs old h),
       c .loop-number .inv .2,
@@ -65,7 +63,7 @@ returns-in-Break-add-start c =
     let p = err-from-errBy (c .from-residual .result) (c .from-residual .ensures .1) in
     record {
       refused = λ cs old h. ap errPart (p .1) ∙ ap Some (p .2) ∙ ends-full cs (used s) k (getD (s .rows) k none) found (c .if-section .taken) (length old) _ (StartTableFull AddSectionEnds)
-        (c .in-Break-add-start .ensures tt .refused (cs ++ section-ends 1 (take k (used s))) old (c .loop-number .inv .1 cs old h));
+          (c .in-Break-add-start .ensures tt .refused (cs ++ section-ends 1 (take k (used s))) old (c .loop-number .inv .1 cs old h));
       added = λ cs old h ok. absurd (never-ok (c .from-residual .result) (p .0) (p .1) ok);
       lender = c .add-start .ensures .lender ∙ c .loop-number .inv .2;
       long = c .add-start .ensures .long ∙ c .loop-number .inv .3;

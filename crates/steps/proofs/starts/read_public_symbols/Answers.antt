@@ -43,9 +43,9 @@ returns-in-Break-add-start g c =
     let p = err-from-errBy (c .from-residual .result) (c .from-residual .ensures .1) in
     record {
       refused = λ old h.
-        ap errPart (p .1) ∙ ap Some (p .2) ∙
-        symbol-full sections (i .symbols) item (c .in-Item .symbol) found runs (length old) _ (StartTableFull ReadPublicSymbols) _
-        (c .in-Break-add-start .ensures tt .refused (symbol-starts sections (take item (i .symbols))) old (c .loop-symbol .inv .1 old h));
+          ap errPart (p .1) ∙ ap Some (p .2) ∙
+          symbol-full sections (i .symbols) item (c .in-Item .symbol) found runs (length old) _ (StartTableFull ReadPublicSymbols) _
+          (c .in-Break-add-start .ensures tt .refused (symbol-starts sections (take item (i .symbols))) old (c .loop-symbol .inv .1 old h));
       read = λ old h ok. absurd (never-ok (c .from-residual .result) (p .0) (p .1) ok);
       lender = c .add-start .ensures .lender ∙ c .loop-symbol .inv .2;
       long = c .add-start .ensures .long ∙ c .loop-symbol .inv .3;
@@ -72,22 +72,22 @@ loop-symbol-again g c =
     let found : nth (i .symbols) item ≡ Some (c .in-Item .symbol) = entry-item (i .symbols) (i .symbols-end) item (c .in-Item .symbol) (sym (c .in-Item .ensures tt)) in
     let within : item < length (i .symbols) = item-within (i .symbols) item (c .in-Item .symbol) found in
     elim (c .if-executable .came) [
-      then-executable·in-Continue-add-start w ↦ (
+      | then-executable·in-Continue-add-start w ↦ (
         omega arith,
         λ old h.
-          let runs : executable sections (c .in-Item .symbol .offset .section) ≡ true = sym (c .executable .ensures) ∙ w .if-executable .taken in
-          subst (λ t. Holds (symbol-starts sections (take (item + 1) (i .symbols))) old (t .rows .now) (t .count)) (sym (w .starts-is))
-          (subst (λ ss. Holds ss old (w .add-start .last .starts .rows .now) (w .add-start .last .starts .count)) (symbol-kept sections (i .symbols) item (c .in-Item .symbol) found runs)
-          (w .in-Continue-add-start .ensures tt .added (symbol-starts sections (take item (i .symbols))) old (c .loop-symbol .inv .1 old h) refl)),
+            let runs : executable sections (c .in-Item .symbol .offset .section) ≡ true = sym (c .executable .ensures) ∙ w .if-executable .taken in
+            subst (λ t. Holds (symbol-starts sections (take (item + 1) (i .symbols))) old (t .rows .now) (t .count)) (sym (w .starts-is))
+            (subst (λ ss. Holds ss old (w .add-start .last .starts .rows .now) (w .add-start .last .starts .count)) (symbol-kept sections (i .symbols) item (c .in-Item .symbol) found runs)
+            (w .in-Continue-add-start .ensures tt .added (symbol-starts sections (take item (i .symbols))) old (c .loop-symbol .inv .1 old h) refl)),
         ap (λ t. name (t .rows)) (w .starts-is) ∙ w .add-start .ensures .lender ∙ c .loop-symbol .inv .2,
         ap (λ t. length (t .rows .now)) (w .starts-is) ∙ w .add-start .ensures .long ∙ c .loop-symbol .inv .3,
       )
-    | else-executable w ↦ (
+      | else-executable w ↦ (
         omega arith,
         λ old h.
-          let runs : executable sections (c .in-Item .symbol .offset .section) ≡ false = sym (c .executable .ensures) ∙ w .if-executable .left in
-          subst (λ t. Holds (symbol-starts sections (take (item + 1) (i .symbols))) old (t .rows .now) (t .count)) (sym (w .starts-is))
-          (subst (λ ss. Holds ss old (c .loop-symbol .starts .rows .now) (c .loop-symbol .starts .count)) (symbol-skipped sections (i .symbols) item (c .in-Item .symbol) found runs) (c .loop-symbol .inv .1 old h)),
+            let runs : executable sections (c .in-Item .symbol .offset .section) ≡ false = sym (c .executable .ensures) ∙ w .if-executable .left in
+            subst (λ t. Holds (symbol-starts sections (take (item + 1) (i .symbols))) old (t .rows .now) (t .count)) (sym (w .starts-is))
+            (subst (λ ss. Holds ss old (c .loop-symbol .starts .rows .now) (c .loop-symbol .starts .count)) (symbol-skipped sections (i .symbols) item (c .in-Item .symbol) found runs) (c .loop-symbol .inv .1 old h)),
         ap (λ t. name (t .rows)) (w .starts-is) ∙ c .loop-symbol .inv .2,
         ap (λ t. length (t .rows .now)) (w .starts-is) ∙ c .loop-symbol .inv .3,
       )
@@ -102,8 +102,8 @@ returns-in-End g c =
     let whole : take item (i .symbols) ≡ i .symbols = end-take (i .symbols) item (end .0) in
     record {
       refused = λ old h.
-        c .end-list .ensures ∙ ap (fault PublicSymbols) (sym (end .1)) ∙
-        sym (or-none _ _ (sym (holds-room (symbol-starts sections (i .symbols)) old (c .loop-symbol .starts .rows .now) (c .loop-symbol .starts .count) (StartTableFull ReadPublicSymbols)
+          c .end-list .ensures ∙ ap (fault PublicSymbols) (sym (end .1)) ∙
+          sym (or-none _ _ (sym (holds-room (symbol-starts sections (i .symbols)) old (c .loop-symbol .starts .rows .now) (c .loop-symbol .starts .count) (StartTableFull ReadPublicSymbols)
           (subst (λ ps. Holds (symbol-starts sections ps) old (c .loop-symbol .starts .rows .now) (c .loop-symbol .starts .count)) whole (c .loop-symbol .inv .1 old h)))));
       read = λ old h ok. subst (λ ps. Holds (symbol-starts sections ps) old (c .loop-symbol .starts .rows .now) (c .loop-symbol .starts .count)) whole (c .loop-symbol .inv .1 old h);
       lender = c .loop-symbol .inv .2;

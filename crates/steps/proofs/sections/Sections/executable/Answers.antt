@@ -7,8 +7,8 @@ use Rattle.steps.proofs.sections.Sections.executable.Needs.{then-number-eq0·b
 pub returns-then-number-eq0 : need.returns-then-number-eq0
 returns-then-number-eq0 c =
     elim (c .then-number-eq0 .came) [
-      then-number-eq0·by·then-number-eq0 w ↦ executable-zero (c .args .self .now .rows) (c .args .self .now .count) (c .args .number) (w .if-number-eq0 .taken)
-    | then-number-eq0·by·else-number-eq0·then-number-self w ↦ executable-past (c .args .self .now .rows) (c .args .self .now .count) (c .args .number) (w .if-number-self .taken)
+      | then-number-eq0·by·then-number-eq0 w ↦ executable-zero (c .args .self .now .rows) (c .args .self .now .count) (c .args .number) (w .if-number-eq0 .taken)
+      | then-number-eq0·by·else-number-eq0·then-number-self w ↦ executable-past (c .args .self .now .rows) (c .args .self .now .count) (c .args .number) (w .if-number-self .taken)
     ]
 
 pub returns : need.returns
