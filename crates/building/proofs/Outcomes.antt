@@ -1,11 +1,13 @@
 -- Building has one outcome, and which step gives it. Assumes nothing.
 use mathlib.Core.Path.{_≡_, refl, sym, ap, subst, _∙_}
-use mathlib.Core.Bool.{cond}
+use mathlib.Core.Bool.{true, false, cond}
 use mathlib.Core.List.{List, _++_}
 use Prim.Native.Nat.{ℕ}
 use lib.Dec.{ltb}
 use lib.ListN.{length, take}
 use native.Mathlib.Omega.{arith}
+use Rattle.std.specs.Results.{isOk}
+use Rattle.std.specs.Vec.{made}
 use Rattle.std.specs.declared.option.Option.{Option}
 use Rattle.std.specs.declared.option.Option.the-variants.{Some, None}
 use Rattle.std.specs.declared.result.Result.{Result}
@@ -96,3 +98,10 @@ read-symbols i start-rows contribution-rows sections o same e =
 pub read-ends : (i : Image) (start-rows contribution-rows : ℕ) (sections : List Section) (o : Option Refusal) → sections ≡ i .sections → o ≡ cond (ltb start-rows (offset-count ((all-symbols i ++ contribution-starts (all-kept i)) ++ section-ends 1 sections))) (Some (StartTableFull AddSectionEnds)) None → o ≡ ends-refused i start-rows contribution-rows
 read-ends i start-rows contribution-rows sections o same e =
     e ∙ ap (λ ss. cond (ltb start-rows (offset-count ((all-symbols i ++ contribution-starts (all-kept i)) ++ section-ends 1 ss))) (Some (StartTableFull AddSectionEnds)) None) same
+
+-- a call that answered a refusal has not answered anything else
+pub never-ok : {X : Type 0} (r : Result X Refusal) (y : Refusal) → r ≡ Err y → isOk r ≡ true → ⊥
+never-ok r y p q = let e : isOk r ≡ false = ap isOk p in let z : _≡_ {A = ℕ} 0 1 = cc in omega arith
+
+pub none-made : {X : Type 0} (r : Result X Refusal) (y : Refusal) (P : X → Type 0) → r ≡ Err y → made r P
+none-made r y P e = subst (λ v. made v P) (sym e) tt

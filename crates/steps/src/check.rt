@@ -34,7 +34,7 @@ impl Sections {
     }
 
     // Numbers count from 1.
-    pub fn executable(&self, number: u16) -> bool
+    pub(crate) fn executable(&self, number: u16) -> bool
         ensures { λ r. ⌜ r ≡ executable (used (now (self .entry))) number ⌝ }
     {
         let number = number as usize;

@@ -18,15 +18,13 @@ use Rattle.base.specs.declared.image.SectionContribution.{SectionContribution}
 use Rattle.base.specs.declared.refusal.Refusal.{Refusal}
 use Rattle.building.specs.Blocks.{block, joins, grown, blocks}
 use Rattle.building.specs.Filling.{Reading}
+use Rattle.building.proofs.Outcomes.{none-made}
 use Rattle.building.proofs.Reading.{made-since, first-refused, first-read, later-full, later-no-room, later-opened, later-joined, joined-start, joined-read, opened-read}
 use Rattle.steps.proofs.blocks.add_contribution.Needs as need
 
 -- what a failed call passes on
 passed : {X : Type 0} (r : Result X Refusal) (y e : Refusal) → r ≡ Err y → y ≡ e → errPart r ≡ Some e
 passed r y e p q = ap errPart p ∙ ap Some q
-
-none-made : {X : Type 0} (r : Result X Refusal) (y : Refusal) (P : X → Type 0) → r ≡ Err y → made r P
-none-made r y P e = subst (λ v. made v P) (sym e) tt
 
 apart-of : (b : Contribution) (n : SectionContribution) → ((b .section ≡ n .offset .section) × (b .«module» ≡ n .«module» → ⊥)) ⊎ (b .section ≡ n .offset .section → ⊥) → joins b n ≡ false
 apart-of b n h = ⊎-elim (λ p. and-right (eqb (b .section) (n .offset .section)) _ (ne-eqb (b .«module») (n .«module») (p .1))) (λ p. and-left _ (eqb (b .«module») (n .«module»)) (ne-eqb (b .section) (n .offset .section) p)) h

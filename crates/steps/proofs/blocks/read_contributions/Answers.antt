@@ -23,15 +23,12 @@ use Rattle.building.specs.Blocks.{blocks}
 use Rattle.building.specs.Outcome.{fault, all-symbols, all-kept, contribution-refusal, first-refusal}
 use Rattle.building.specs.Filling.{Holds, Filed, Reading, Proper}
 use Rattle.building.proofs.Items.{item-within, entry-item, entry-end, end-take, refused-here, refused-on, refused-none}
-use Rattle.building.proofs.Outcomes.{or-some, or-none}
+use Rattle.building.proofs.Outcomes.{or-some, or-none, never-ok}
 use Rattle.building.proofs.Reading.{reading-none, kept-more-by, counted-size, counted-refusal, kept-as-before, skipped-refusal}
 use Rattle.steps.specs.Used.{used}
 use Rattle.steps.proofs.blocks.read_contributions.Given as given
 use Rattle.steps.proofs.blocks.read_contributions.Needs as need
 use Rattle.steps.proofs.blocks.read_contributions.Needs.{then-keeps·in-Continue-block, else-keeps}
-
-never-ok : {X : Type 0} (r : Result X Refusal) (y : Refusal) → r ≡ Err y → isOk r ≡ true → ⊥
-never-ok r y p q = let e : isOk r ≡ false = ap isOk p in let z : _≡_ {A = ℕ} 0 1 = cc in omega arith
 
 -- the same tables and blocks under other names
 moved : (symbols : List KnownStart) (cs cs′ : List SectionContribution) (old : List KnownStart) (s s′ : Table KnownStart) (rows : List Contribution) (t t′ : Table Contribution) (o o′ : Option Contribution) → cs ≡ cs′ → s′ ≡ s → t′ ≡ t → o′ ≡ o → Reading symbols cs old (s .rows .now) (s .count) rows (t .rows .now) (t .count) o → Reading symbols cs′ old (s′ .rows .now) (s′ .count) rows (t′ .rows .now) (t′ .count) o′

@@ -16,7 +16,7 @@ use Rattle.building.specs.Blocks.{blocks}
 use Rattle.building.specs.Outcome.{Outcome, all-symbols, all-kept, ends-refused}
 use Rattle.building.specs.Filling.{Holds, Filed, Proper}
 use Rattle.building.proofs.Blocks.{apart-all, stands-all}
-use Rattle.building.proofs.Outcomes.{read-symbols, read-ends, refused-sections, refused-symbols, refused-contributions, refused-overlap, refused-ends, granted}
+use Rattle.building.proofs.Outcomes.{read-symbols, read-ends, refused-sections, refused-symbols, refused-contributions, refused-overlap, refused-ends, granted, none-made}
 use Rattle.steps.specs.Used.{used}
 use Rattle.steps.proofs.fill.fill.Given as given
 use Rattle.steps.proofs.fill.fill.Needs as need
@@ -24,9 +24,6 @@ use Rattle.steps.proofs.fill.fill.Needs as need
 -- a refusal that is passed on
 passed : {X : Type 0} (r : Result X Refusal) (y e : Refusal) (Q : Refusal → Type 0) → r ≡ Err y → y ≡ e → Q e → refused r Q
 passed r y e Q p q h = subst (λ v. refused v Q) (sym (p ∙ ap Err q)) h
-
-none-made : {X : Type 0} (r : Result X Refusal) (y : Refusal) (P : X → Type 0) → r ≡ Err y → made r P
-none-made r y P e = subst (λ v. made v P) (sym e) tt
 
 pub returns-in-Break-sections : need.returns-in-Break-sections
 returns-in-Break-sections g c =

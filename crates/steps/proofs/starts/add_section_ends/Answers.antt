@@ -18,13 +18,11 @@ use Rattle.base.specs.declared.refusal.Refusal.the-variants.{StartTableFull}
 use Rattle.base.specs.declared.refusal.Step.the-variants.{AddSectionEnds}
 use Rattle.building.specs.Starts.{section-ends}
 use Rattle.building.specs.Filling.{Holds}
+use Rattle.building.proofs.Outcomes.{never-ok}
 use Rattle.building.proofs.Sections.{used-at, ends-kept, ends-skipped, ends-full}
 use Rattle.building.proofs.Symbols.{holds-room}
 use Rattle.steps.specs.Used.{used}
 use Rattle.steps.proofs.starts.add_section_ends.Needs as need
-
-never-ok : {X : Type 0} (r : Result X Refusal) (y : Refusal) → r ≡ Err y → isOk r ≡ true → ⊥
-never-ok r y p q = let e : isOk r ≡ false = ap isOk p in let z : _≡_ {A = ℕ} 0 1 = cc in omega arith
 
 abbrev none : Section
 none = record { address = 0; size = 0; executable = false }

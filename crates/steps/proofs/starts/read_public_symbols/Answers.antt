@@ -23,15 +23,12 @@ use Rattle.base.specs.declared.refusal.FaultyList.the-variants.{PublicSymbols}
 use Rattle.building.specs.Outcome.{fault}
 use Rattle.building.specs.Filling.{Holds}
 use Rattle.building.proofs.Items.{item-within, entry-item, entry-end, end-take}
-use Rattle.building.proofs.Outcomes.{or-some, or-none}
+use Rattle.building.proofs.Outcomes.{or-some, or-none, never-ok}
 use Rattle.building.proofs.Symbols.{symbol-kept, symbol-skipped, symbol-full, holds-room}
 use Rattle.steps.specs.Used.{used}
 use Rattle.steps.proofs.starts.read_public_symbols.Given as given
 use Rattle.steps.proofs.starts.read_public_symbols.Needs as need
 use Rattle.steps.proofs.starts.read_public_symbols.Needs.{then-executable·in-Continue-add-start, else-executable}
-
-never-ok : {X : Type 0} (r : Result X Refusal) (y : Refusal) → r ≡ Err y → isOk r ≡ true → ⊥
-never-ok r y p q = let e : isOk r ≡ false = ap isOk p in let z : _≡_ {A = ℕ} 0 1 = cc in omega arith
 
 pub returns-in-Break-add-start : need.returns-in-Break-add-start
 returns-in-Break-add-start g c =
