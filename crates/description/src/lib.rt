@@ -7,10 +7,10 @@ ghost use Rattle.std.specs.Vec.{made};
 ghost use Rattle.description.specs.Drafts.{lists, Says, Few};
 ghost use Rattle.description.specs.Described.{described, Sound};
 
-pub mod draft;
-pub mod keyword;
+mod draft;
+mod keyword;
 pub mod mistake;
-pub mod row;
+mod row;
 
 use base::image::Ending;
 use base::image::PublicSymbol;
