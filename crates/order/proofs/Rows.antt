@@ -38,6 +38,12 @@ pairwise-from test x xs a p = and-from (every (test x) xs) (pairwise test xs) (a
 pub pairwise-none : {X : Type 0} (test : X → X → Bool) → Pairwise test []
 pairwise-none test = refl
 
+-- a list with rows left out in front
+pub pairwise-drop : {X : Type 0} (test : X → X → Bool) (n : ℕ) (xs : List X) → Pairwise test xs → Pairwise test (drop n xs)
+pairwise-drop test zero xs h = h
+pairwise-drop test (suc n) [] h = h
+pairwise-drop test (suc n) (x ∷ xs) h = pairwise-drop test n xs (pairwise-cons test x xs h .1)
+
 -- by places
 pub pairwise-at : {X : Type 0} (test : X → X → Bool) (xs : List X) → Pairwise test xs → (i j : ℕ) (d : X) → i < j → j < length xs → test (getD xs i d) (getD xs j d) ≡ true
 pairwise-at test [] h i j d l m = absurd (omega arith)

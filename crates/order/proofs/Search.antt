@@ -1,18 +1,21 @@
 -- What one comparison tells of the rows on either side. Assumes nothing.
-use mathlib.Core.Path.{_≡_, refl, sym, subst}
+use mathlib.Core.Path.{_≡_, refl, sym, ap, subst, _∙_}
 use mathlib.Core.Logic.{_⊎_, ⊎-elim}
 use mathlib.Core.Bool.{true, false, not}
-use mathlib.Core.List.{List}
-use Prim.Native.Nat.{ℕ, _+_, _≤_, _<_}
+use mathlib.Core.List.{List, [], _∷_}
+use Prim.Native.Nat.{ℕ, zero, suc, _+_, _≤_, _<_}
 use native.Mathlib.Omega.{arith}
-use lib.ListN.{length, getD}
-use Rattle.std.proofs.shelf.Lists.{getD-read}
-use Rattle.std.proofs.shelf.Tests.{both-ways, cases-bool, cases-lt, not-true}
+use lib.ListN.{length, getD, drop}
+use lib.Seq.{drop-cons}
+use Rattle.std.proofs.shelf.Lists.{getD-read, drop-all}
+use Rattle.std.proofs.shelf.Tests.{both-ways, cases-bool, cases-lt, not-true, cond-true, cond-false}
+use Rattle.std.specs.declared.option.Option.the-variants.{Some, None}
 use Rattle.std.specs.declared.cmp.Ordering.{Ordering}
 use Rattle.std.specs.declared.cmp.Ordering.the-variants.{Less, Equal, Greater}
-use Rattle.order.specs.Rank.{before, same, Compared, InOrder}
-use Rattle.order.proofs.Ranks.{before-irrefl, before-asym, same-eq, upto-before, before-not-same}
-use Rattle.order.proofs.Rows.{pairwise-at, same-flip}
+use Rattle.order.specs.Rank.{before, same, Compared, InOrder, at}
+use Rattle.order.specs.Placed.{Place}
+use Rattle.order.proofs.Ranks.{before-irrefl, before-asym, same-eq, upto-before, before-upto, not-before, before-not-same}
+use Rattle.order.proofs.Rows.{pairwise-at, pairwise-cons, pairwise-drop, same-flip}
 
 pub not-less : (o : Ordering) (a b : List ℕ) → (o ≡ Less → ⊥) → Compared o a b → before a b ≡ false
 not-less Less a b n h = absurd (n refl)
@@ -44,3 +47,33 @@ module _ {X : Type 0} (rank : X → List ℕ) (xs : List X) (q : List ℕ) (m : 
       (cases-bool (before (rank (getD xs k d)) q)))
       (λ ge. let e : m ≡ k = omega arith in subst (λ i. before (rank (getD xs i d)) q ≡ false) e here)
       (cases-lt m k)
+
+-- what stands at a rank stands at its place
+module _ {X : Type 0} (rank : X → List ℕ) (q : List ℕ) where
+  none-below : (p : ℕ) (xs : List X) → ((k : ℕ) (d : X) → k < p → before (rank (getD xs k d)) q ≡ true) → at rank q xs ≡ at rank q (drop p xs)
+  none-below zero xs b = refl
+  none-below (suc p) [] b = refl
+  none-below (suc p) (x ∷ xs) b =
+      cond-false _ _ _ (before-not-same (rank x) q (b 0 x (omega arith))) ∙ none-below p xs (λ k d l. b (suc k) d (omega arith))
+
+  after-none : (x : X) (xs : List X) → InOrder rank (x ∷ xs) → before (rank x) q ≡ false → same (rank x) q ≡ false → at rank q (x ∷ xs) ≡ None
+  after-none x [] o b n = cond-false _ _ _ n
+  after-none x (y ∷ ys) o b n =
+      let p = pairwise-cons (λ x y. not (before (rank y) (rank x))) x (y ∷ ys) o in
+      let up : before q (rank x) ≡ true = not-before (rank x) q b n in
+      let over : before q (rank y) ≡ true = before-upto q (rank x) (rank y) up (not-true _ (p .0 .0)) in
+      cond-false _ _ _ n ∙ after-none y ys (p .1) (before-asym q (rank y) over) (same-flip q (rank y) (before-not-same q (rank y) over))
+
+module _ {X : Type 0} (rank : X → List ℕ) (xs : List X) (q : List ℕ) (p : ℕ) (ord : InOrder rank xs) (h : Place rank xs q p) where
+  pub found-here : (x : X) → p < length xs → x ≡ getD xs p x → same (rank x) q ≡ true → at rank q xs ≡ Some x
+  found-here x l e s =
+      none-below rank q p xs (h .below) ∙ ap (at rank q) (drop-cons xs p x l ∙ ap (λ y. y ∷ drop (suc p) xs) (sym e)) ∙ cond-true _ _ _ s
+
+  pub found-other : (x : X) → p < length xs → x ≡ getD xs p x → same (rank x) q ≡ false → at rank q xs ≡ None
+  found-other x l e s =
+      let o : drop p xs ≡ x ∷ drop (suc p) xs = drop-cons xs p x l ∙ ap (λ y. y ∷ drop (suc p) xs) (sym e) in
+      let b : before (rank x) q ≡ false = subst (λ y. before (rank y) q ≡ false) (sym e) (h .above p x (omega arith) l) in
+      none-below rank q p xs (h .below) ∙ ap (at rank q) o ∙ after-none rank q x (drop (suc p) xs) (subst (InOrder rank) o (pairwise-drop (λ x y. not (before (rank y) (rank x))) p xs ord)) b s
+
+  pub found-past : length xs ≤ p → at rank q xs ≡ None
+  found-past l = none-below rank q p xs (h .below) ∙ ap (at rank q) (drop-all p xs l)

@@ -48,10 +48,20 @@ InOrder rank xs = Pairwise (λ x y. not (before (rank y) (rank x))) xs
 abbrev pub Rises : {X : Type 0} → (X → List ℕ) → List X → Type 0
 Rises rank xs = Pairwise (λ x y. before (rank x) (rank y)) xs
 
+-- the later of two finds
+abbrev pub later : {X : Type 0} → Option X → Option X → Option X
+later None earlier = earlier
+later (Some x) earlier = Some x
+
 -- the first row that passes a test
 abbrev pub first : {X : Type 0} → (X → Bool) → List X → Option X
 first test [] = None
 first test (x ∷ xs) = cond (test x) (Some x) (first test xs)
+
+-- the last row that passes a test
+abbrev pub last : {X : Type 0} → (X → Bool) → List X → Option X
+last test [] = None
+last test (x ∷ xs) = later (last test xs) (cond (test x) (Some x) None)
 
 -- the first row of a rank
 abbrev pub at : {X : Type 0} → (X → List ℕ) → List ℕ → List X → Option X

@@ -10,7 +10,7 @@ ghost use Rattle.std.specs.Holes.{inserted};
 ghost use Rattle.std.specs.Results.{isOk};
 ghost use Rattle.std.specs.declared.option.Option.the-variants.{Some, None};
 ghost use Rattle.order.specs.declared.Meeting.the-variants.{GivesWay};
-ghost use Rattle.order.specs.Rank.{InOrder, inside};
+ghost use Rattle.order.specs.Rank.{InOrder, at, inside};
 ghost use Rattle.order.specs.Placed.{Place, Settled, placed, changed};
 use order::Meeting;
 use order::Row;
@@ -71,6 +71,21 @@ pub fn position<R: Row>(rows: &[R], row: &R) -> usize
         }
     }
     low
+}
+
+// The row of the rank of `row`, where one stands.
+pub fn find<R: Row + Copy>(rows: &[R], row: &R) -> Option<R>
+    ensures { λ r. ⌜ (InOrder (R·Row .rank) (now (rows .entry)) → r ≡ at (R·Row .rank) (R·Row .rank (now (row .entry))) (now (rows .entry))) ⌝ }
+{
+    let place = position(rows, row);
+    if place >= rows.len() {
+        return None;
+    }
+    let standing = rows[place];
+    match standing.compare(row) {
+        Ordering::Equal => Some(standing),
+        _ => None,
+    }
 }
 
 // Whether `place` lies from the span's start up to its end, which is outside.
