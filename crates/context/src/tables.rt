@@ -4,8 +4,8 @@ ghost use Prim.Native.Nat.{_≤_};
 ghost use denote.Ref.{now};
 ghost use lib.ListN.{length, take};
 ghost use Rattle.std.specs.shelf.Lists.{kept-by};
-ghost use Rattle.order.specs.Rank.{Rises, Pairwise};
-ghost use Rattle.base.specs.Rows.{start-rank, named};
+ghost use Rattle.order.specs.Rank.{Rises, InOrder, Pairwise};
+ghost use Rattle.base.specs.Rows.{start-rank, contribution-rank, named};
 ghost use Rattle.building.specs.Blocks.{apart};
 use base::context::Contribution;
 use base::context::KnownStart;
@@ -18,8 +18,8 @@ pub struct Tables<'a> {
     pub contributions: &'a mut [Contribution],
 }
 
-// The first `start_count` starts and the first `contribution_count` contributions are used. The starts rise, and each
-// contribution lies before the next.
+// The first `start_count` starts and the first `contribution_count` contributions are used. The starts rise, and the
+// contributions are in order, each lying before the next.
 #[derive(Drop)]
 pub struct Context<'a> {
     pub sections: Sections,
@@ -31,6 +31,7 @@ pub struct Context<'a> {
     ghost few_starts: { «start_count» ≤ length (now starts) },
     ghost few_contributions: { «contribution_count» ≤ length (now contributions) },
     ghost rises: { Rises start-rank (take «start_count» (now starts)) },
+    ghost ordered: { InOrder contribution-rank (take «contribution_count» (now contributions)) },
     ghost apart_all: { Pairwise apart (take «contribution_count» (now contributions)) },
     ghost counted: { «named_count» ≡ length (kept-by named (take «start_count» (now starts))) },
 }

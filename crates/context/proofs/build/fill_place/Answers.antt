@@ -33,7 +33,7 @@ ghost-place g c =
     let f = filed-start rows (c .over-contributions .result .rows .now) (c .over-contributions .result .count) (c .over-contributions .ensures .rows ∙ ap (λ r. now r) (c .replace-2 .ensures .value)) (c .over-contributions .ensures .count) in
     let filled = c .in-Ok .ensures tt .filled starts rows h f in
     let whole : c .fill .last .starts .count - 0 ≡ c .fill .last .starts .count = omega arith in
-    (filled .starts-hold .untouched .few, (filled .rows-filed .untouched .few, (filled .starts-hold .known .rises, (filled .rows-apart, (c .count-named-named-count .ensures ∙ ap (λ n. length (kept-by named (take n (c .fill .last .starts .rows .now)))) whole, tt)))))
+    (filled .starts-hold .untouched .few, (filled .rows-filed .untouched .few, (filled .starts-hold .known .rises, (filled .rows-filed .stands .in-order, (filled .rows-apart, (c .count-named-named-count .ensures ∙ ap (λ n. length (kept-by named (take n (c .fill .last .starts .rows .now)))) whole, tt))))))
 
 pub returns-in-Ok : need.returns-in-Ok
 returns-in-Ok g c =
