@@ -1,0 +1,1 @@
+// What lookup answers, as definitions in specs/, and their laws in proofs/.

@@ -1,0 +1,21 @@
+// Where an address lies, and the function that it belongs to.
+use crate::name::NameRow;
+use base::context::Contribution;
+use base::image::SectionOffset;
+
+// An address that lies in a section and there in a contribution.
+#[derive(Clone, Copy)]
+pub struct Location {
+    // the section's address
+    pub base: u32,
+    pub offset: SectionOffset,
+    pub contribution: Contribution,
+}
+
+// A function's extent, by addresses, and its name. There is no end where it would lie above 4,294,967,295.
+#[derive(Clone, Copy)]
+pub struct Function {
+    pub start_rva: u32,
+    pub end_rva: Option<u32>,
+    pub name: NameRow,
+}
