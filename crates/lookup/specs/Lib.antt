@@ -1,4 +1,5 @@
 pub mod Reading
+pub mod Keeping
 pub mod Places
 pub mod Finding
 pub mod Laws

@@ -10,12 +10,8 @@ use Rattle.base.specs.declared.image.SectionOffset.{SectionOffset}
 use Rattle.base.specs.declared.image.Section.{Section}
 use Rattle.base.specs.declared.context.Contribution.{Contribution}
 use Rattle.building.specs.Outcome.{Built}
+use Rattle.procedures.specs.declared.function.Spot.{Spot}
 use Rattle.procedures.specs.declared.function.Location.{Location}
-
--- a place in a section, with the section's address
-pub record Spot : Type 0 where
-  pub base : ℕ
-  pub offset : SectionOffset
 
 -- the place of an address in the first section that contains it; the list's first section has number n
 abbrev pub spot : ℕ → List Section → ℕ → Option Spot

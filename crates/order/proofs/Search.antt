@@ -12,8 +12,8 @@ use Rattle.std.proofs.shelf.Tests.{both-ways, cases-bool, cases-lt, not-true, c
 use Rattle.std.specs.declared.option.Option.the-variants.{Some, None}
 use Rattle.std.specs.declared.cmp.Ordering.{Ordering}
 use Rattle.std.specs.declared.cmp.Ordering.the-variants.{Less, Equal, Greater}
-use Rattle.order.specs.Rank.{before, same, Compared, InOrder, at}
-use Rattle.order.specs.Placed.{Place}
+use Rattle.order.specs.Rank.{before, same, Compared, InOrder, Rises, at}
+use Rattle.order.specs.Placed.{Place, Reach}
 use Rattle.order.proofs.Ranks.{before-irrefl, before-asym, same-eq, upto-before, before-upto, not-before, before-not-same}
 use Rattle.order.proofs.Rows.{pairwise-at, pairwise-cons, pairwise-drop, same-flip}
 
@@ -77,3 +77,53 @@ module _ {X : Type 0} (rank : X → List ℕ) (xs : List X) (q : List ℕ) (p : 
 
   pub found-past : length xs ≤ p → at rank q xs ≡ None
   found-past l = none-below rank q p xs (h .below) ∙ ap (at rank q) (drop-all p xs l)
+
+-- from the place where a row goes to how far rows do not come after it
+module _ {X : Type 0} (rank : X → List ℕ) (xs : List X) (q : List ℕ) (p : ℕ) (up : Rises rank xs) (h : Place rank xs q p) where
+  pub reach-past : length xs ≤ p → Reach rank xs q p
+  reach-past l = record {
+    within = h .within;
+    upto = λ k d m. before-asym (rank (getD xs k d)) q (h .below k d m);
+    past = λ k d m n. absurd (omega arith);
+  }
+
+  -- what stands after a row that does not come before q comes after q
+  beyond : (x : X) → p < length xs → x ≡ getD xs p x → before (rank x) q ≡ false → (k : ℕ) (d : X) → p < k → k < length xs → before q (rank (getD xs k d)) ≡ true
+  beyond x l e b k d m n =
+      let step : before (rank (getD xs p d)) (rank (getD xs k d)) ≡ true = pairwise-at (λ x y. before (rank x) (rank y)) xs up p k d m n in
+      let same-row : getD xs p d ≡ x = sym (getD-read xs p x l e d) in
+      let from : before (rank x) (rank (getD xs k d)) ≡ true = subst (λ y. before (rank y) (rank (getD xs k d)) ≡ true) same-row step in
+      upto-before q (rank x) (rank (getD xs k d)) b from
+
+  pub reach-equal : (x : X) → p < length xs → x ≡ getD xs p x → same (rank x) q ≡ true → Reach rank xs q (p + 1)
+  reach-equal x l e s =
+      let b : before (rank x) q ≡ false = subst (λ y. before (rank y) q ≡ false) (sym e) (h .above p x (omega arith) l) in
+      let level = same-eq (rank x) q s in
+      record {
+        within = omega arith;
+        upto = λ k d m.
+            ⊎-elim
+            (λ lt. before-asym (rank (getD xs k d)) q (h .below k d lt))
+            (λ ge.
+            let at-p : p ≡ k = omega arith in
+            subst (λ i. before q (rank (getD xs i d)) ≡ false) at-p
+            (subst (λ y. before q (rank y) ≡ false) (getD-read xs p x l e d) (subst (λ r. before r (rank x) ≡ false) level (before-irrefl (rank x)))))
+            (cases-lt k p);
+        past = λ k d m n. beyond x l e b k d (omega arith) n;
+      }
+
+  pub reach-other : (x : X) → p < length xs → x ≡ getD xs p x → same (rank x) q ≡ false → Reach rank xs q p
+  reach-other x l e s =
+      let b : before (rank x) q ≡ false = subst (λ y. before (rank y) q ≡ false) (sym e) (h .above p x (omega arith) l) in
+      record {
+        within = h .within;
+        upto = λ k d m. before-asym (rank (getD xs k d)) q (h .below k d m);
+        past = λ k d m n.
+            ⊎-elim
+            (λ lt. beyond x l e b k d lt n)
+            (λ ge.
+            let at-p : p ≡ k = omega arith in
+            subst (λ i. before q (rank (getD xs i d)) ≡ true) at-p
+            (subst (λ y. before q (rank y) ≡ true) (getD-read xs p x l e d) (not-before (rank x) q b s)))
+            (cases-lt p k);
+      }

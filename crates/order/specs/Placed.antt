@@ -33,6 +33,12 @@ pub record Place {X : Type 0} (rank : X → List ℕ) (xs : List X) (q : List �
   pub below : (k : ℕ) (d : X) → k < place → before (rank (getD xs k d)) q ≡ true
   pub above : (k : ℕ) (d : X) → place ≤ k → k < length xs → before (rank (getD xs k d)) q ≡ false
 
+-- how far the rows reach that do not come after q: those below that place, and none from it on
+pub record Reach {X : Type 0} (rank : X → List ℕ) (xs : List X) (q : List ℕ) (place : ℕ) : Type 0 where
+  pub within : place ≤ length xs
+  pub upto : (k : ℕ) (d : X) → k < place → before q (rank (getD xs k d)) ≡ false
+  pub past : (k : ℕ) (d : X) → place ≤ k → k < length xs → before q (rank (getD xs k d)) ≡ true
+
 -- what becomes of a table whose first rows are used when r comes in: the used rows become those with r placed, and the rows past
 -- them stay; or that would not fit, and everything stays
 abbrev pub Settled : {X : Type 0} → (X → List ℕ) → (X → X → Meeting) → List X → ℕ → X → Option ℕ → List X → Type 0

@@ -3,10 +3,16 @@ use crate::name::NameRow;
 use base::context::Contribution;
 use base::image::SectionOffset;
 
+// A place in a section, with the section's address.
+#[derive(Clone, Copy)]
+pub struct Spot {
+    pub base: u32,
+    pub offset: SectionOffset,
+}
+
 // An address that lies in a section and there in a contribution.
 #[derive(Clone, Copy)]
 pub struct Location {
-    // the section's address
     pub base: u32,
     pub offset: SectionOffset,
     pub contribution: Contribution,

@@ -10,8 +10,8 @@ ghost use Rattle.std.specs.Holes.{inserted};
 ghost use Rattle.std.specs.Results.{isOk};
 ghost use Rattle.std.specs.declared.option.Option.the-variants.{Some, None};
 ghost use Rattle.order.specs.declared.Meeting.the-variants.{GivesWay};
-ghost use Rattle.order.specs.Rank.{InOrder, at, inside};
-ghost use Rattle.order.specs.Placed.{Place, Settled, placed, changed};
+ghost use Rattle.order.specs.Rank.{InOrder, Rises, at, inside};
+ghost use Rattle.order.specs.Placed.{Place, Reach, Settled, placed, changed};
 use order::Meeting;
 use order::Row;
 use order::Span;
@@ -71,6 +71,21 @@ pub fn position<R: Row>(rows: &[R], row: &R) -> usize
         }
     }
     low
+}
+
+// How many rows do not come after `row`, where no two are of one rank.
+pub fn reach<R: Row>(rows: &[R], row: &R) -> usize
+    ensures within { λ r. ⌜ r ≤ length (now (rows .entry)) ⌝ }
+    ensures reach { λ r. ⌜ (Rises (R·Row .rank) (now (rows .entry)) → Reach (R·Row .rank) (now (rows .entry)) (R·Row .rank (now (row .entry))) r) ⌝ }
+{
+    let place = position(rows, row);
+    if place >= rows.len() {
+        return place;
+    }
+    match rows[place].compare(row) {
+        Ordering::Equal => place + 1,
+        _ => place,
+    }
 }
 
 // The row of the rank of `row`, where one stands.
