@@ -3,11 +3,11 @@ use mathlib.Core.Path.{_≡_, refl, sym, ap, subst, _∙_}
 use mathlib.Core.Logic.{_⊎_, inl, inr, ⊎-elim}
 use mathlib.Core.Bool.{Bool, true, false, cond, _&&_}
 use mathlib.Core.List.{List, [], _∷_, _++_}
-use Prim.Native.Nat.{ℕ, zero, suc, _≤_, _<_}
+use Prim.Native.Nat.{ℕ, zero, suc, _<_}
 use native.Mathlib.Omega.{arith}
 use lib.ListN.{length, getD}
 use Rattle.std.proofs.shelf.Tests.{both-ways, cases-bool, cond-true, cond-false, and-left, and-right}
-use Rattle.std.proofs.shelf.Elements.{all-getD, all-weaker, all-has, all-from-every}
+use Rattle.std.proofs.shelf.Elements.{all-weaker, all-has, all-from-every}
 use Rattle.std.specs.shelf.Lists.{All, Has}
 use Rattle.std.specs.declared.option.Option.{Option}
 use Rattle.std.specs.declared.option.Option.the-variants.{Some, None}
@@ -169,16 +169,16 @@ pub starts-last : (o : SectionOffset) (ps : List Procedure) → Rises procedure-
 starts-last o ps r p e = (
   last-passes (covers o) ps p e,
   none-first (λ x. covers o x && before (procedure-rank p) (procedure-rank x)) ps
-  (all-weaker (λ y. covers o y ≡ true → (y ≡ p) ⊎ (before (procedure-rank y) (procedure-rank p) ≡ true)) (λ y. (covers o y && before (procedure-rank p) (procedure-rank y)) ≡ false)
-  (λ y h.
-  ⊎-elim
-  (λ c.
-  and-right (covers o y) (before (procedure-rank p) (procedure-rank y))
-  (⊎-elim
-  (λ s. subst (λ z. before (procedure-rank p) (procedure-rank z) ≡ false) (sym s) (before-irrefl (procedure-rank p)))
-  (λ b. before-asym (procedure-rank y) (procedure-rank p) b)
-  (h c)))
-  (λ c. and-left (covers o y) (before (procedure-rank p) (procedure-rank y)) c)
-  (cases-bool (covers o y)))
-  ps (last-rising (covers o) procedure-rank ps p r e)),
+      (all-weaker (λ y. covers o y ≡ true → (y ≡ p) ⊎ (before (procedure-rank y) (procedure-rank p) ≡ true)) (λ y. (covers o y && before (procedure-rank p) (procedure-rank y)) ≡ false)
+      (λ y h.
+      ⊎-elim
+      (λ c.
+      and-right (covers o y) (before (procedure-rank p) (procedure-rank y))
+      (⊎-elim
+      (λ s. subst (λ z. before (procedure-rank p) (procedure-rank z) ≡ false) (sym s) (before-irrefl (procedure-rank p)))
+      (λ b. before-asym (procedure-rank y) (procedure-rank p) b)
+      (h c)))
+      (λ c. and-left (covers o y) (before (procedure-rank p) (procedure-rank y)) c)
+      (cases-bool (covers o y)))
+      ps (last-rising (covers o) procedure-rank ps p r e)),
 )

@@ -1,3 +1,5 @@
 pub mod Choosing
-pub mod Reading
+pub mod Extents
+pub mod History
 pub mod Keeping
+pub mod Reading

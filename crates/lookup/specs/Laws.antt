@@ -3,7 +3,7 @@ use mathlib.Core.Path.{_≡_}
 use mathlib.Core.Logic.{_⊎_, _↔_}
 use mathlib.Core.Bool.{Bool, true, false, _&&_, _||_}
 use mathlib.Core.List.{List, [], _∷_}
-use Prim.Native.Nat.{ℕ}
+use Prim.Native.Nat.{ℕ, _≤_}
 use lib.Dec.{leb, ltb, eqb}
 use Rattle.std.specs.declared.option.Option.{Option}
 use Rattle.std.specs.declared.option.Option.the-variants.{Some, None}
@@ -14,7 +14,7 @@ use Rattle.base.specs.Rows.{offset-rank}
 use Rattle.base.specs.declared.image.SectionOffset.{SectionOffset}
 use Rattle.base.specs.declared.context.KnownStart.{KnownStart}
 use Rattle.base.specs.declared.refusal.Refusal.{Refusal}
-use Rattle.building.specs.Outcome.{Built}
+use Rattle.building.specs.Outcome.{Built, top}
 use Rattle.provider.specs.Modules.{Modules}
 use Rattle.procedures.specs.Rows.{procedure-rank}
 use Rattle.procedures.specs.declared.row.Procedure.{Procedure}
@@ -49,10 +49,10 @@ Together starts a b ps =
     ((p : Procedure) × (chosen a ps ≡ Some p) × (chosen b ps ≡ Some p))
     ⊎ ((chosen a ps ≡ None) × (chosen b ps ≡ None) × (first (separates a b) starts ≡ None))
 
--- two answered addresses of one contribution have the same extent exactly when they belong together
+-- two answered addresses of one contribution, neither above the top, have the same extent exactly when they belong together
 abbrev pub Extents : List ℕ → Modules → Built → Shelved → Type 0
 Extents text ms c s =
-    (a b : ℕ) (l k : Location) (f g : Function) →
+    (a b : ℕ) (l k : Location) (f g : Function) → a ≤ top → b ≤ top →
     locate c a ≡ Some l → locate c b ≡ Some k → l .contribution ≡ k .contribution →
     find-function text ms c a s .answer ≡ Ok (Some f) → find-function text ms c b s .answer ≡ Ok (Some g) →
     SameExtent f g ↔ Together (c .starts) (l .offset) (k .offset) (shelve ms (l .contribution .«module») s .shelf .procedures)

@@ -81,11 +81,14 @@ abbrev pub ended : Ending → Result (List Procedure) Refusal → Result (Option
 ended end (Ok ps) = Ok (informed end ps)
 ended end (Err e) = Err e
 
+abbrev pub read-through : ℕ → Module → Result (Option (List Procedure)) Refusal
+read-through m x = ended (x .symbols-end) (all-kept m 0 [] (x .symbols))
+
 -- the procedures of a module, or none where there is no information
 abbrev pub reading : ℕ → Content → Result (Option (List Procedure)) Refusal
 reading m absent = Ok None
 reading m broken = Ok None
-reading m (present x) = ended (x .symbols-end) (all-kept m 0 [] (x .symbols))
+reading m (present x) = read-through m x
 
 -- a shelf: the number of the module read last, and its procedures
 pub record Shelved : Type 0 where

@@ -7,10 +7,11 @@ ghost use denote.Ref.{name as label};
 ghost use lib.Dec.{ltb};
 ghost use lib.ListN.{length};
 ghost use Rattle.std.specs.Results.{errPart, isOk};
+ghost use Rattle.std.specs.declared.option.Option.the-variants.{None};
 ghost use Rattle.provider.specs.Modules.{content};
 ghost use Rattle.procedures.specs.declared.row.Procedure.{Procedure as Row};
 ghost use Rattle.building.specs.Outcome.{top};
-ghost use Rattle.lookup.specs.Reading.{empty-shelf, procedure-refusal, shelve, bears};
+ghost use Rattle.lookup.specs.Reading.{empty-shelf, procedure-refusal, read-through, filled, shelve, bears};
 ghost use Rattle.lookup.specs.Keeping.{Holds, Read, parent-of};
 ghost use Rattle.shelf.specs.Shelf.{shelved};
 use crate::keep::kept_procedure;
@@ -67,7 +68,12 @@ impl Shelf {
         }
     }
 
-    fn load<P: ModuleProvider>(&mut self, provider: &P, module: u16) -> Result<(), Refusal> {
+    // The shelf is empty, and the module is there to be read.
+    fn load<P: ModuleProvider>(&mut self, provider: &P, module: u16) -> Result<(), Refusal>
+        requires empty { ⌜ (now self .count ≡ 0) × (now self .«module» ≡ None) ⌝ }
+        ensures answer { λ r. ⌜ errPart r ≡ filled «module» (read-through «module» (content (P·ModuleProvider .modules (now (provider .entry)) .at «module»))) .refusal ⌝ }
+        ensures shelf { λ r. ⌜ shelved (now (self .exit)) ≡ filled «module» (read-through «module» (content (P·ModuleProvider .modules (now (provider .entry)) .at «module»))) .shelf ⌝ }
+    {
         let mut parent_rows = [Parent::empty(); MOST_PROCEDURES];
         let mut procedures = Table {
             rows: &mut self.rows,
