@@ -21,6 +21,7 @@ use Rattle.base.specs.declared.refusal.Refusal.{Refusal}
 use Rattle.base.specs.declared.refusal.Refusal.the-variants.{ProcedureOutside, TooManyProcedures}
 use Rattle.building.specs.Starts.{or-else}
 use Rattle.building.specs.Outcome.{top}
+use Rattle.building.proofs.Items.{end-drop}
 use Rattle.provider.specs.declared.symbols.SymbolRecord.{SymbolRecord}
 use Rattle.provider.specs.declared.symbols.Symbol.{Symbol}
 use Rattle.provider.specs.declared.symbols.Symbol.the-variants.{Procedure as ProcedureSymbol, Thunk, SeparatedCode, InlineSite, Other}
@@ -126,3 +127,32 @@ module _ (m k : ℕ) (ps : List Procedure) (rs : List SymbolRecord) (r : SymbolR
   pub step-refused : (p : Procedure) (e : Refusal) → kept ps k (r .symbol) ≡ Some p → procedure-refusal m k ps p ≡ Some e → all-kept m k ps (drop k rs) ≡ Err e
   unfolding go-on
   step-refused p e f g = all-kept-step m k ps rs r found ∙ ap (λ o. go-on (with-kept m k ps o)) f ∙ ap (λ o. go-on (unless-refused (ps ++ p ∷ []) o)) g
+
+-- how far a reader has come
+abbrev pub Progress : ℕ → List SymbolRecord → ℕ → List Procedure → ℕ → List Parent → ℕ → Type 0
+Progress m rs k rows count parent-rows parent-count =
+    (ps : List Procedure) × Holds ps rows count parent-rows parent-count × (all-kept m 0 [] rs ≡ all-kept m k ps (drop k rs))
+
+module _ (m k : ℕ) (rs : List SymbolRecord) (rows : List Procedure) (count : ℕ) (parent-rows : List Parent) (parent-count : ℕ) where
+  pub progress-ended : nth rs k ≡ None → Progress m rs k rows count parent-rows parent-count → (ps : List Procedure) × (all-kept m 0 [] rs ≡ Ok ps) × (take count rows ≡ in-order ps) × (count ≤ most-procedures)
+  progress-ended e g = (g .0, g .2 ∙ ap (all-kept m k (g .0)) (end-drop rs k e), g .1 .procedures-held, (let f = g .1 .few in let l = g .1 .long in omega arith))
+
+  module _ (r : SymbolRecord) (found : nth rs k ≡ Some r) (o : Option Procedure) (read : InOrder parent-rank (take parent-count parent-rows) → o ≡ kept-by (take parent-count parent-rows) k (r .symbol)) (g : Progress m rs k rows count parent-rows parent-count) where
+    is-kept : o ≡ kept (g .0) k (r .symbol)
+    is-kept =
+        read (parents-in-order (g .0) rows count parent-rows parent-count (g .1)) ∙ ap (λ q. kept-by q k (r .symbol)) (g .1 .parents-held) ∙ kept-by-parents (g .0) k (r .symbol)
+
+    pub progress-skipped : o ≡ None → Progress m rs (k + 1) rows count parent-rows parent-count
+    progress-skipped e = (g .0, g .1, g .2 ∙ step-skipped m k (g .0) rs r found (sym is-kept ∙ e))
+
+    module _ (p : Procedure) (e : o ≡ Some p) where
+      pub progress-kept : (rows′ : List Procedure) (count′ : ℕ) (parent-rows′ : List Parent) (parent-count′ : ℕ) → ((ps : List Procedure) → Holds ps rows count parent-rows parent-count → None ≡ procedure-refusal m k ps p) → ((ps : List Procedure) → Holds ps rows count parent-rows parent-count → Holds (ps ++ p ∷ []) rows′ count′ parent-rows′ parent-count′) → Progress m rs (k + 1) rows′ count′ parent-rows′ parent-count′
+      progress-kept rows′ count′ parent-rows′ parent-count′ granted added =
+          (g .0 ++ p ∷ [], added (g .0) (g .1), g .2 ∙ step-kept m k (g .0) rs r found p (sym is-kept ∙ e) (sym (granted (g .0) (g .1))))
+
+      pub progress-refused : (x : Refusal) → ((ps : List Procedure) → Holds ps rows count parent-rows parent-count → Some x ≡ procedure-refusal m k ps p) → all-kept m 0 [] rs ≡ Err x
+      progress-refused x refused = g .2 ∙ step-refused m k (g .0) rs r found p x (sym is-kept ∙ e) (sym (refused (g .0) (g .1)))
+
+pub none-from : {X : Type 0} (o : Option X) → ((x : X) → o ≡ Some x → ⊥) → o ≡ None
+none-from None h = refl
+none-from (Some x) h = absurd (h x refl)

@@ -51,5 +51,5 @@ pub record Holds (ps rows : List Procedure) (count : ℕ) (parent-rows : List Pa
 
 -- the symbols of a module have been read to their end, or up to a refusal
 abbrev pub Read : ℕ → Module → List Procedure → ℕ → Result Ending Refusal → Type 0
-Read m x rows count (Ok end) = (end ≡ x .symbols-end) × ((ps : List Procedure) × (all-kept m 0 [] (x .symbols) ≡ Ok ps) × (take count rows ≡ in-order ps) × (count ≤ length rows))
+Read m x rows count (Ok end) = (end ≡ x .symbols-end) × ((ps : List Procedure) × (all-kept m 0 [] (x .symbols) ≡ Ok ps) × (take count rows ≡ in-order ps) × (count ≤ most-procedures))
 Read m x rows count (Err e) = all-kept m 0 [] (x .symbols) ≡ Err e

@@ -5,16 +5,21 @@ ghost use Rattle.base.specs.Rows.{offset-rank};
 ghost use Rattle.procedures.specs.Rows.{parent-rank};
 ghost use Rattle.lookup.specs.Reading.{unless-empty};
 ghost use Rattle.lookup.specs.Keeping.{kept-by};
+ghost use Rattle.shelf.specs.Parents.{used};
 use base::image::SectionOffset;
 use procedures::row::Parent;
 use procedures::row::ParentRow;
 use procedures::row::Procedure;
 use provider::symbols::Symbol;
-use table::find;
+use table::Table;
 
 // The procedure that the record at number `item` adds. The parents have a row for each offset where one was kept before.
-pub(crate) fn kept_procedure(parents: &[Parent], item: u32, symbol: Symbol) -> Option<Procedure>
-    ensures { λ r. ⌜ (InOrder parent-rank (now (parents .entry)) → r ≡ kept-by (now (parents .entry)) item symbol) ⌝ }
+pub(crate) fn kept_procedure(
+    parents: &Table<Parent>,
+    item: u32,
+    symbol: Symbol,
+) -> Option<Procedure>
+    ensures { λ r. ⌜ (InOrder parent-rank (used (now (parents .entry))) → r ≡ kept-by (used (now (parents .entry))) item symbol) ⌝ }
 {
     match symbol {
         Symbol::Procedure {
@@ -65,14 +70,14 @@ pub(crate) fn kept_procedure(parents: &[Parent], item: u32, symbol: Symbol) -> O
     }
 }
 
-fn parent_at(parents: &[Parent], offset: SectionOffset) -> Option<Parent>
-    ensures { λ r. ⌜ (InOrder parent-rank (now (parents .entry)) → r ≡ at parent-rank (offset-rank offset) (now (parents .entry))) ⌝ }
+fn parent_at(parents: &Table<Parent>, offset: SectionOffset) -> Option<Parent>
+    ensures { λ r. ⌜ (InOrder parent-rank (used (now (parents .entry))) → r ≡ at parent-rank (offset-rank offset) (used (now (parents .entry)))) ⌝ }
 {
     let sought = Parent {
         offset,
         ..Parent::empty()
     };
-    find(parents, &sought)
+    parents.find(&sought)
 }
 
 fn unless_empty(procedure: Procedure) -> Option<Procedure>

@@ -107,8 +107,7 @@ fn read_symbols<P: ModuleProvider>(
     loop {
         match provider.symbol(module, item) {
             Entry::Item(found) => {
-                let used = parents.count;
-                if let Some(procedure) = kept_procedure(&parents.rows[0..used], item, found.symbol) {
+                if let Some(procedure) = kept_procedure(parents, item, found.symbol) {
                     add_procedure(procedures, parents, module, item, procedure)?;
                 }
                 item += 1;

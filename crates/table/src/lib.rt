@@ -54,6 +54,14 @@ impl<'t, R: Row + Copy> Table<'t, R> {
             None => Err(Full),
         }
     }
+
+    // The used row of the rank of `row`, where one stands.
+    pub fn find(&self, row: &R) -> Option<R>
+        ensures { λ r. ⌜ (InOrder (R·Row .rank) (take (now (self .entry) .count) (now (now (self .entry) .rows))) → r ≡ at (R·Row .rank) (R·Row .rank (now (row .entry))) (take (now (self .entry) .count) (now (now (self .entry) .rows)))) ⌝ }
+    {
+        let used = self.count.min(self.rows.len());
+        find(&self.rows[0..used], row)
+    }
 }
 
 // Where `row` goes: a binary search for the number of rows that come before it.
