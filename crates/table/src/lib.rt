@@ -59,8 +59,14 @@ impl<'t, R: Row + Copy> Table<'t, R> {
     pub fn find(&self, row: &R) -> Option<R>
         ensures { λ r. ⌜ (InOrder (R·Row .rank) (take (now (self .entry) .count) (now (now (self .entry) .rows))) → r ≡ at (R·Row .rank) (R·Row .rank (now (row .entry))) (take (now (self .entry) .count) (now (now (self .entry) .rows)))) ⌝ }
     {
+        find(self.used(), row)
+    }
+
+    fn used(&self) -> &[R]
+        ensures { λ r. ⌜ now r ≡ take (now (self .entry) .count) (now (now (self .entry) .rows)) ⌝ }
+    {
         let used = self.count.min(self.rows.len());
-        find(&self.rows[0..used], row)
+        &self.rows[0..used]
     }
 }
 
@@ -86,7 +92,21 @@ pub fn reach<R: Row>(rows: &[R], row: &R) -> usize
     ensures within { λ r. ⌜ r ≤ length (now (rows .entry)) ⌝ }
     ensures reach { λ r. ⌜ (Rises (R·Row .rank) (now (rows .entry)) → Reach (R·Row .rank) (now (rows .entry)) (R·Row .rank (now (row .entry))) r) ⌝ }
 {
-    let place = position(rows, row);
+    past_level(rows, position(rows, row), row)
+}
+
+// The row of the rank of `row`, where one stands.
+pub fn find<R: Row + Copy>(rows: &[R], row: &R) -> Option<R>
+    ensures { λ r. ⌜ (InOrder (R·Row .rank) (now (rows .entry)) → r ≡ at (R·Row .rank) (R·Row .rank (now (row .entry))) (now (rows .entry))) ⌝ }
+{
+    level_row(rows, position(rows, row), row)
+}
+
+// The place after the row of the rank of `row`, which goes at `place`; that place itself where there is none.
+fn past_level<R: Row>(rows: &[R], place: usize, row: &R) -> usize
+    ensures within { λ r. ⌜ (place ≤ length (now (rows .entry)) → r ≤ length (now (rows .entry))) ⌝ }
+    ensures reach { λ r. ⌜ (Rises (R·Row .rank) (now (rows .entry)) → (InOrder (R·Row .rank) (now (rows .entry)) → Place (R·Row .rank) (now (rows .entry)) (R·Row .rank (now (row .entry))) place) → Reach (R·Row .rank) (now (rows .entry)) (R·Row .rank (now (row .entry))) r) ⌝ }
+{
     if place >= rows.len() {
         return place;
     }
@@ -96,11 +116,9 @@ pub fn reach<R: Row>(rows: &[R], row: &R) -> usize
     }
 }
 
-// The row of the rank of `row`, where one stands.
-pub fn find<R: Row + Copy>(rows: &[R], row: &R) -> Option<R>
-    ensures { λ r. ⌜ (InOrder (R·Row .rank) (now (rows .entry)) → r ≡ at (R·Row .rank) (R·Row .rank (now (row .entry))) (now (rows .entry))) ⌝ }
+fn level_row<R: Row + Copy>(rows: &[R], place: usize, row: &R) -> Option<R>
+    ensures { λ r. ⌜ (InOrder (R·Row .rank) (now (rows .entry)) → Place (R·Row .rank) (now (rows .entry)) (R·Row .rank (now (row .entry))) place → r ≡ at (R·Row .rank) (R·Row .rank (now (row .entry))) (now (rows .entry))) ⌝ }
 {
-    let place = position(rows, row);
     if place >= rows.len() {
         return None;
     }
