@@ -31,6 +31,3 @@ no-text = record { start = 0; length = 0 }
 
 abbrev pub no-procedure : Procedure
 no-procedure = record { offset = nowhere; length = 0; name = no-text; «type_number» = 0; item = 0; end = 0 }
-
-abbrev pub no-parent : Parent
-no-parent = record { offset = nowhere; name = no-text; «type_number» = 0 }

@@ -1,7 +1,9 @@
 // A module's procedures, as rows.
 ghost use mathlib.Core.Path.{_≡_};
 ghost use Prim.Native.Nat.{_+_};
-ghost use Rattle.procedures.specs.Rows.{procedure-rank, procedure-meets, parent-rank, parent-meets, no-procedure, no-parent};
+ghost use Rattle.order.specs.Rank.{Compared};
+ghost use Rattle.base.specs.Rows.{offset-rank};
+ghost use Rattle.procedures.specs.Rows.{procedure-rank, procedure-meets, parent-rank, parent-meets, no-procedure};
 use base::image::SectionOffset;
 use base::image::TextPart;
 use order::Meeting;
@@ -55,17 +57,12 @@ impl Procedure {
     }
 }
 
-impl Parent {
-    pub fn empty() -> Parent
-        ensures { λ r. ⌜ r ≡ no-parent ⌝ }
-    {
-        Parent {
-            offset: NOWHERE,
-            name: NO_TEXT,
-            type_number: 0,
-        }
-    }
-}
+// The row of a table of parents that is not used.
+pub const NO_PARENT: Parent = Parent {
+    offset: NOWHERE,
+    name: NO_TEXT,
+    type_number: 0,
+};
 
 pub impl Row for Procedure as ProcedureRow {
     ghost rank = { procedure-rank };
@@ -73,10 +70,7 @@ pub impl Row for Procedure as ProcedureRow {
     ghost meets = { procedure-meets };
 
     fn compare(&self, other: &Procedure) -> Ordering {
-        self.offset
-            .section
-            .cmp(&other.offset.section)
-            .then(self.offset.offset.cmp(&other.offset.offset))
+        compare_offsets(self.offset, other.offset)
     }
 
     fn meet(&self, _newer: &Procedure) -> Meeting {
@@ -89,16 +83,19 @@ pub impl Row for Parent as ParentRow {
 
     ghost meets = { parent-meets };
 
-    fn compare(&self, other: &Parent) -> Ordering {
-        self.offset
-            .section
-            .cmp(&other.offset.section)
-            .then(self.offset.offset.cmp(&other.offset.offset))
+    fn compare(&self, newer: &Parent) -> Ordering {
+        compare_offsets(self.offset, newer.offset)
     }
 
     fn meet(&self, _newer: &Parent) -> Meeting {
         Meeting::GivesWay
     }
+}
+
+fn compare_offsets(a: SectionOffset, b: SectionOffset) -> Ordering
+    ensures { λ r. ⌜ Compared r (offset-rank a) (offset-rank b) ⌝ }
+{
+    a.section.cmp(&b.section).then(a.offset.cmp(&b.offset))
 }
 
 pub impl Span for Procedure as ProcedureSpan {

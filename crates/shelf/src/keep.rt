@@ -7,6 +7,7 @@ ghost use Rattle.lookup.specs.Reading.{unless-empty};
 ghost use Rattle.lookup.specs.Keeping.{kept-by};
 ghost use Rattle.shelf.specs.Parents.{used};
 use base::image::SectionOffset;
+use procedures::row::NO_PARENT;
 use procedures::row::Parent;
 use procedures::row::ParentRow;
 use procedures::row::Procedure;
@@ -75,7 +76,7 @@ fn parent_at(parents: &Table<Parent>, offset: SectionOffset) -> Option<Parent>
 {
     let sought = Parent {
         offset,
-        ..Parent::empty()
+        ..NO_PARENT
     };
     parents.find(&sought)
 }

@@ -21,6 +21,7 @@ use base::image::Ending;
 use base::image::Entry;
 use base::refusal::Refusal;
 use order::Span;
+use procedures::row::NO_PARENT;
 use procedures::row::Parent;
 use procedures::row::ParentRow;
 use procedures::row::Procedure;
@@ -74,7 +75,7 @@ impl Shelf {
         ensures answer { λ r. ⌜ errPart r ≡ filled «module» (read-through «module» (content (P·ModuleProvider .modules (now (provider .entry)) .at «module»))) .refusal ⌝ }
         ensures shelf { λ r. ⌜ shelved (now (self .exit)) ≡ filled «module» (read-through «module» (content (P·ModuleProvider .modules (now (provider .entry)) .at «module»))) .shelf ⌝ }
     {
-        let mut parent_rows = [Parent::empty(); MOST_PROCEDURES];
+        let mut parent_rows = [NO_PARENT; MOST_PROCEDURES];
         let mut procedures = Table {
             rows: &mut self.rows,
             count: 0,

@@ -1,0 +1,3 @@
+// The resolver: which function an address belongs to.
+pub mod answers;
+pub mod resolver;
