@@ -376,3 +376,7 @@ extents text ms c s rs rp a b l k f g few-a few-b here there one found also =
     agree (c .starts) ps rs (shelve-rises ms (l .contribution .«module») s rp) l k f g base section low high
     (origin (c .starts) ps text l f (found-at text ms c s a l f here found))
     (origin (c .starts) ps text k g (subst (λ d. function-at text (c .starts) k (shelve ms (d .«module») s .shelf .procedures) ≡ Some g) (sym one) (found-at text ms c s b k g there also)))
+
+-- a located address is its section's address and its place
+pub located-address : (c : Built) (a : ℕ) (l : Location) → locate c a ≡ Some l → l .base + l .offset .offset ≡ a
+located-address c a l h = spot-address 1 (c .sections) a (record { base = l .base; offset = l .offset }) (located c a l h .from)

@@ -50,12 +50,11 @@ impl<P: ModuleProvider> Resolver<P> {
             return Ok(None);
         };
         self.shelf.want(&self.provider, location.contribution.module)?;
-        let count = self.shelf.count;
         Ok(function_at(
             self.provider.text(),
             context,
             &location,
-            &self.shelf.rows[0..count],
+            self.shelf.procedures(),
         ))
     }
 

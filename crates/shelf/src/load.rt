@@ -8,7 +8,9 @@ ghost use lib.Dec.{ltb};
 ghost use lib.ListN.{length};
 ghost use Rattle.std.specs.Results.{errPart, isOk};
 ghost use Rattle.std.specs.declared.option.Option.the-variants.{None};
+ghost use Rattle.order.specs.Rank.{Rises};
 ghost use Rattle.provider.specs.Modules.{content};
+ghost use Rattle.procedures.specs.Rows.{procedure-rank};
 ghost use Rattle.procedures.specs.declared.row.Procedure.{Procedure as Row};
 ghost use Rattle.building.specs.Outcome.{top};
 ghost use Rattle.lookup.specs.Reading.{empty-shelf, procedure-refusal, read-through, filled, shelve, bears};
@@ -41,6 +43,13 @@ impl Shelf {
             rows: [Procedure::empty(); MOST_PROCEDURES],
             count: 0,
         }
+    }
+
+    pub fn procedures(&self) -> &[Procedure]
+        ensures value { λ r. ⌜ now r ≡ shelved (now (self .entry)) .procedures ⌝ }
+        ensures rises { λ r. ⌜ Rises procedure-rank (now r) ⌝ }
+    {
+        &self.rows[0..self.count]
     }
 
     // Sees to it that the shelf holds the procedures of a module. One that bears the module's number stays as it is; a module without
