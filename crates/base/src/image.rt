@@ -45,7 +45,7 @@ pub enum Ending {
 }
 
 // The answer to a question for an item of a list: the item, or the list's ending where there is none.
-#[derive(Clone, Copy)]
+#[derive(Drop)]
 pub enum Entry<T> {
     Item(T),
     End(Ending),

@@ -119,8 +119,7 @@ impl FaultyList {
         ensures { λ r. ⌜ r ≡ list-module (now (self .entry)) ⌝ }
     {
         match self {
-            FaultyList::Extras { module } => Some(*module),
-            FaultyList::LineRows { module } => Some(*module),
+            FaultyList::Extras { module } | FaultyList::LineRows { module } => Some(*module),
             _ => None,
         }
     }
@@ -178,13 +177,13 @@ impl Refusal {
         ensures { λ r. ⌜ r ≡ item-of (now (self .entry)) ⌝ }
     {
         match self {
-            Refusal::SectionOutside { item } => Some(*item),
-            Refusal::ContributionOutside { item } => Some(*item),
-            Refusal::Unordered { item, .. } => Some(*item),
-            Refusal::ProcedureOutside { item, .. } => Some(*item),
-            Refusal::TooManyProcedures { item, .. } => Some(*item),
-            Refusal::RangeOutside { item, .. } => Some(*item),
-            Refusal::SitesTooDeep { item, .. } => Some(*item),
+            Refusal::SectionOutside { item }
+            | Refusal::ContributionOutside { item }
+            | Refusal::Unordered { item, .. }
+            | Refusal::ProcedureOutside { item, .. }
+            | Refusal::TooManyProcedures { item, .. }
+            | Refusal::RangeOutside { item, .. }
+            | Refusal::SitesTooDeep { item, .. } => Some(*item),
             _ => None,
         }
     }
@@ -194,12 +193,12 @@ impl Refusal {
         ensures { λ r. ⌜ r ≡ module-of (now (self .entry)) ⌝ }
     {
         match self {
-            Refusal::Unordered { module, .. } => Some(*module),
-            Refusal::ProcedureOutside { module, .. } => Some(*module),
-            Refusal::TooManyProcedures { module, .. } => Some(*module),
-            Refusal::RangeOutside { module, .. } => Some(*module),
-            Refusal::SitesTooDeep { module, .. } => Some(*module),
-            Refusal::TooManyRanges { module } => Some(*module),
+            Refusal::Unordered { module, .. }
+            | Refusal::ProcedureOutside { module, .. }
+            | Refusal::TooManyProcedures { module, .. }
+            | Refusal::RangeOutside { module, .. }
+            | Refusal::SitesTooDeep { module, .. }
+            | Refusal::TooManyRanges { module } => Some(*module),
             Refusal::Fault { list, .. } => list.module(),
             _ => None,
         }

@@ -8,7 +8,7 @@ use Rattle.base.specs.declared.context.Contribution.{Contribution}
 use Rattle.image.specs.Image.{Image}
 use Rattle.building.specs.Outcome.{Built, Outcome}
 use Rattle.building.specs.Filling.{Untouched}
-use Rattle.steps.specs.Used.{used}
+use Rattle.sections.specs.Used.{used}
 use Rattle.context.specs.declared.tables.Context.{Context}
 
 abbrev pub meaning : Context → Built

@@ -18,9 +18,9 @@ use base::context::KnownStart;
 use base::context::KnownStartRow;
 use base::refusal::Refusal;
 use image::ImageSource;
+use sections::Sections;
 use std::mem;
 use steps::fill::fill;
-use steps::sections::Sections;
 use table::Table;
 
 impl<'a> Context<'a> {
@@ -90,16 +90,17 @@ fn fill_place<'a, S: ImageSource>(
 {
     let mut starts = Table::over(mem::replace(&mut tables.starts, &mut []));
     let mut contributions = Table::over(mem::replace(&mut tables.contributions, &mut []));
-    match fill(source, &mut starts, &mut contributions) {
+    let filled = fill(source, &mut starts, &mut contributions);
+    let Table {
+        rows: starts,
+        count: start_count,
+    } = starts;
+    let Table {
+        rows: contributions,
+        count: contribution_count,
+    } = contributions;
+    match filled {
         Ok(sections) => {
-            let Table {
-                rows: starts,
-                count: start_count,
-            } = starts;
-            let Table {
-                rows: contributions,
-                count: contribution_count,
-            } = contributions;
             let named_count = count_named(&starts[0..start_count]);
             *place = Context {
                 sections,
@@ -112,14 +113,6 @@ fn fill_place<'a, S: ImageSource>(
             Ok(())
         }
         Err(refusal) => {
-            let Table {
-                rows: starts,
-                count: _,
-            } = starts;
-            let Table {
-                rows: contributions,
-                count: _,
-            } = contributions;
             tables.starts = starts;
             tables.contributions = contributions;
             Err(refusal)

@@ -9,7 +9,7 @@ ghost use Rattle.base.specs.Rows.{start-rank, contribution-rank, named};
 ghost use Rattle.building.specs.Blocks.{apart};
 use base::context::Contribution;
 use base::context::KnownStart;
-use steps::sections::Sections;
+use sections::Sections;
 
 // What a caller hands over for building.
 #[derive(Drop)]

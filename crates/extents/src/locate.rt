@@ -6,7 +6,7 @@ ghost use Rattle.std.specs.Options.{Cases};
 ghost use Rattle.order.specs.Rank.{InOrder, Pairwise};
 ghost use Rattle.base.specs.Rows.{contribution-rank};
 ghost use Rattle.building.specs.Blocks.{apart};
-ghost use Rattle.steps.specs.Used.{used};
+ghost use Rattle.sections.specs.Used.{used};
 ghost use Rattle.context.specs.Context.{meaning};
 ghost use Rattle.lookup.specs.Places.{locate as located, spot, contribution-at, holds as contained};
 use base::context::Contribution;
@@ -18,7 +18,7 @@ use base::image::SectionSpan;
 use context::tables::Context;
 use procedures::function::Location;
 use procedures::function::Spot;
-use steps::sections::Sections;
+use sections::Sections;
 use table::contains;
 use table::position;
 

@@ -1,14 +1,13 @@
 -- Tables of which no row is bad. Assumes nothing.
 use mathlib.Core.Path.{_≡_, refl, sym, ap, subst, _∙_}
 use mathlib.Core.Logic.{⊎-elim}
-use mathlib.Core.Bool.{Bool, true, false, cond, _&&_}
+use mathlib.Core.Bool.{Bool, true, false, cond}
 use mathlib.Core.List.{List, [], _∷_}
 use Prim.Native.Nat.{ℕ, zero, suc, _+_, _^_, _≤_, _<_}
 use native.Mathlib.Omega.{arith}
 use denote.Ref.{now}
 use lib.Dec.{leb, ltb, lit<}
-use lib.ListN.{length, take, drop}
-use Rattle.std.proofs.shelf.Ways.{tells}
+use lib.ListN.{length, drop}
 use Rattle.std.proofs.shelf.Tests.{and-parts, cond-true, cond-false, cases-bool, leb-true, ltb-false}
 use Rattle.std.proofs.shelf.Lists.{length-take}
 use Rattle.std.proofs.shelf.Maps.{nth-past}
@@ -18,10 +17,9 @@ use Rattle.std.specs.shelf.Lists.{All}
 use Rattle.std.specs.shelf.Maps.{nth}
 use Rattle.std.specs.declared.option.Option.{Option}
 use Rattle.std.specs.declared.option.Option.the-variants.{Some, None}
-use Rattle.order.specs.Rank.{before, same, first, Rises, InOrder}
+use Rattle.order.specs.Rank.{before, same, first, Rises}
 use Rattle.order.proofs.Ranks.{before-trans}
 use Rattle.order.proofs.Rows.{pairwise-cons, pairwise-from, in-order-from-rises}
-use Rattle.base.specs.declared.refusal.Refusal.{Refusal}
 use Rattle.base.specs.declared.refusal.RowTable.{RowTable}
 use Rattle.base.specs.declared.refusal.RowTable.the-variants.{Records, SiteLists, LineLists, Files}
 use Rattle.provider.specs.declared.symbols.ModuleState.{ModuleState}
@@ -166,11 +164,11 @@ module _ (t : ModuleRows) (g : GoodRows t) where
     rises = h .symbols;
     few-symbols = h .few-symbols;
     few-site-rows = λ site start.
-      few-site-rows t _
-      (λ l e. found-all (λ l. rows-within (length (now (t .«site_rows»))) (l .rows) ≡ true) (λ l. same (site-rank l) (site ∷ offset-key start)) (part (now (t .«site_lists»)) (m .«site_lists»)) l (part-all _ (now (t .«site_lists»)) (m .«site_lists») (g .site-lists)) e);
+        few-site-rows t _
+        (λ l e. found-all (λ l. rows-within (length (now (t .«site_rows»))) (l .rows) ≡ true) (λ l. same (site-rank l) (site ∷ offset-key start)) (part (now (t .«site_lists»)) (m .«site_lists»)) l (part-all _ (now (t .«site_lists»)) (m .«site_lists») (g .site-lists)) e);
     few-line-rows = λ start.
-      few-line-rows t _
-      (λ l e. found-all (λ l. rows-within (length (now (t .«line_rows»))) (l .rows) ≡ true) (λ l. same (line-rank l) (offset-key start)) (part (now (t .«line_lists»)) (m .«line_lists»)) l (part-all _ (now (t .«line_lists»)) (m .«line_lists») (g .line-lists)) e);
+        few-line-rows t _
+        (λ l e. found-all (λ l. rows-within (length (now (t .«line_rows»))) (l .rows) ≡ true) (λ l. same (line-rank l) (offset-key start)) (part (now (t .«line_lists»)) (m .«line_lists»)) l (part-all _ (now (t .«line_lists»)) (m .«line_lists») (g .line-lists)) e);
   }
 
   regular-content : (s : ModuleState) (m : Module) → RegularModule m → RegularModule (content (content-of s m))
@@ -197,14 +195,6 @@ means-nothing t k e = record { means = e; site-lists = refl; line-lists = refl; 
 
 pub none-answers : (t : ModuleRows) (k : ℕ) → None ≡ nth (now (t .modules)) k → AnswersFor t k no-module
 none-answers t k e = means-nothing t k (ap (λ o. content (row-content t o)) (sym e))
-
-not-present : (s : ModuleState) (m : Module) → (s ≡ Present → ⊥) → content (content-of s m) ≡ nothing
-not-present Absent m h = refl
-not-present Broken m h = refl
-not-present Present m h = absurd (h refl)
-
-pub other-answers : (t : ModuleRows) (k : ℕ) (m : ModuleRow) → Some m ≡ nth (now (t .modules)) k → (m .state ≡ Present → ⊥) → AnswersFor t k no-module
-other-answers t k m e h = means-nothing t k (ap (λ o. content (row-content t o)) (sym e) ∙ not-present (m .state) (module-of t m) h)
 
 pub present-answers : (text : List ℕ) (t : ModuleRows) → isSome (bad-row text t) ≡ false → (k : ℕ) (m : ModuleRow) → Some m ≡ nth (now (t .modules)) k → m .state ≡ Present → AnswersFor t k m
 present-answers text t h k m e s =

@@ -1,5 +1,5 @@
 -- Which row of the tables of modules is refused. Assumes nothing.
-use mathlib.Core.Bool.{Bool, true, false, cond, _&&_}
+use mathlib.Core.Bool.{Bool, true, cond, _&&_}
 use mathlib.Core.List.{List, [], _∷_}
 use Prim.Native.Nat.{ℕ, _+_}
 use denote.Ref.{now}
@@ -16,13 +16,9 @@ use Rattle.base.specs.declared.refusal.RowTable.{RowTable}
 use Rattle.base.specs.declared.refusal.RowTable.the-variants.{Modules, Records, SiteLists, LineLists, Files}
 use Rattle.provider.specs.declared.symbols.Symbol.{Symbol}
 use Rattle.provider.specs.declared.symbols.Symbol.the-variants.{Procedure, Thunk, SeparatedCode, InlineSite, Other}
-use Rattle.provider.specs.declared.symbols.SymbolRecord.{SymbolRecord}
 use Rattle.provider.specs.Modules.{index-rank}
 use Rattle.modules.specs.declared.tables.RowRange.{RowRange}
 use Rattle.modules.specs.declared.tables.ModuleRow.{ModuleRow}
-use Rattle.modules.specs.declared.tables.SiteList.{SiteList}
-use Rattle.modules.specs.declared.tables.LineList.{LineList}
-use Rattle.modules.specs.declared.tables.FileRow.{FileRow}
 use Rattle.modules.specs.declared.tables.ModuleRows.{ModuleRows}
 use Rattle.modules.specs.Ranks.{site-rank, line-rank, file-rank}
 use Rattle.modules.specs.Meaning.{part}

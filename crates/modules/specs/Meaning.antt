@@ -67,7 +67,7 @@ modules-of t = record {
   at = λ k. row-content t (nth (now (t .modules)) k);
 }
 
-abbrev pub no-rows : RowRange
+abbrev no-rows : RowRange
 no-rows = record { first = 0; count = 0 }
 
 -- the row of a module that has nothing

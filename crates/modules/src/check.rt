@@ -194,10 +194,18 @@ impl ModuleRows<'_> {
         if let Some(refusal) = first_outside(self.files, RowTable::Files, text.len()) {
             return Some(refusal);
         }
-        if let Some(refusal) = first_outside(self.site_lists, RowTable::SiteLists, self.site_rows.len()) {
+        if let Some(refusal) = first_outside(
+            self.site_lists,
+            RowTable::SiteLists,
+            self.site_rows.len(),
+        ) {
             return Some(refusal);
         }
-        if let Some(refusal) = first_outside(self.line_lists, RowTable::LineLists, self.line_rows.len()) {
+        if let Some(refusal) = first_outside(
+            self.line_lists,
+            RowTable::LineLists,
+            self.line_rows.len(),
+        ) {
             return Some(refusal);
         }
         self.bad_modules()

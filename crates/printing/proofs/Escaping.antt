@@ -19,8 +19,8 @@ use Rattle.std.specs.declared.option.Option.the-variants.{Some, None}
 use Rattle.std.specs.declared.result.Result.{Result}
 use Rattle.std.specs.declared.result.Result.the-variants.{Ok, Err}
 use Rattle.words.specs.declared.quote.Place.the-variants.{Plain, Slash, High, Low}
-use Rattle.words.specs.Quotes.{hex-digit, stepped, put, after-step, from-place}
-use Rattle.printing.specs.Escaped.{hex-written, written, escaped, Read-again}
+use Rattle.words.specs.Quotes.{hex-digit, stepped, put, after-step, from-place, unquoted}
+use Rattle.printing.specs.Escaped.{hex-written, written, escaped}
 
 pub made-when : {X Y : Type 0} (r : Result X Y) (P : Type 0) → (isOk r ≡ true → P) → made r (λ _. P)
 made-when (Ok x) P h = h refl
@@ -65,7 +65,7 @@ byte-again b rest small =
     (λ e. cond-both (ltb b 32) _ _ P (λ _. hex-again b rest small)
     (λ _. cond-both (ltb b 127) _ _ P (λ _. plain-again b rest (eqb-false b 92 e)) (λ _. hex-again b rest small))))
 
-pub read-again : Read-again
+pub read-again : (bs : List ℕ) → All (λ b. b < 256) bs → unquoted (escaped bs) ≡ Some bs
 read-again [] h = refl
 read-again (b ∷ bs) h = byte-again b (escaped bs) (h .0) ∙ ap (mapped (put (Some b))) (read-again bs (h .1))
 

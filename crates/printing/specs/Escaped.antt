@@ -1,13 +1,9 @@
 -- How bytes are written within quotes. Assumes nothing.
-use mathlib.Core.Path.{_≡_}
 use mathlib.Core.Bool.{cond}
 use mathlib.Core.List.{List, [], _∷_, _++_}
-use Prim.Native.Nat.{ℕ, _/_, _%_, _<_}
+use Prim.Native.Nat.{ℕ, _/_, _%_}
 use lib.Dec.{eqb, ltb}
 use Rattle.std.specs.Text.{digitChar}
-use Rattle.std.specs.shelf.Lists.{All}
-use Rattle.std.specs.declared.option.Option.the-variants.{Some}
-use Rattle.words.specs.Quotes.{unquoted}
 
 abbrev pub hex-written : ℕ → List ℕ
 hex-written b = 92 ∷ 120 ∷ digitChar (b / 16) ∷ digitChar (b % 16) ∷ []
@@ -19,6 +15,3 @@ written b =
 abbrev pub escaped : List ℕ → List ℕ
 escaped [] = []
 escaped (b ∷ bs) = written b ++ escaped bs
-
-abbrev pub Read-again : Type 0
-Read-again = (bs : List ℕ) → All (λ b. b < 256) bs → unquoted (escaped bs) ≡ Some bs

@@ -5,12 +5,15 @@ ghost use Prim.Native.Nat.{_<_};
 ghost use Rattle.std.specs.Of.String.{string-bytes};
 ghost use Rattle.std.specs.Text.{digitChar};
 ghost use Rattle.std.specs.Vec.{made};
-ghost use Rattle.printing.specs.Escaped.{hex-written, written, escaped, Read-again};
+ghost use Rattle.std.specs.declared.option.Option.the-variants.{Some};
+ghost use Rattle.words.specs.Quotes.{unquoted};
+ghost use Rattle.printing.specs.Escaped.{hex-written, written, escaped};
 use std::alloc::AllocError;
 
-// Printable ASCII stands for itself, but for the quote and the backslash.
+// Printable ASCII stands for itself, but for the quote and the backslash. What is written stands, between quotes, for the bytes.
 pub fn push_escaped(out: &mut String, bytes: &[u8]) -> Result<(), AllocError>
-    ensures { λ r. ⌜ made r (λ _. string-bytes (now (out .exit)) ≡ string-bytes (now (out .entry)) ++ escaped (now (bytes .entry))) ⌝ }
+    ensures appended { λ r. ⌜ made r (λ _. string-bytes (now (out .exit)) ≡ string-bytes (now (out .entry)) ++ escaped (now (bytes .entry))) ⌝ }
+    ensures read_again { λ _. ⌜ unquoted (escaped (now (bytes .entry))) ≡ Some (now (bytes .entry)) ⌝ }
 {
     for b in bytes {
         push_byte(out, *b)?;
@@ -46,11 +49,4 @@ fn hex_digit(digit: u8) -> char
     } else {
         (b'a' + (digit - 10)) as char
     }
-}
-
-// What is written, between quotes, stands for the bytes that were to be written.
-pub fn escaping_stands() -> u8
-    ensures { λ _. ⌜ Read-again ⌝ }
-{
-    0
 }

@@ -7,9 +7,8 @@ ghost use Rattle.std.specs.shelf.Maps.{nth};
 ghost use Rattle.std.specs.declared.option.Option.the-variants.{Some, None};
 ghost use Rattle.std.specs.declared.result.Result.the-variants.{Ok, Err};
 ghost use Rattle.image.specs.Image.{entry};
-ghost use Rattle.provider.specs.Modules.{content};
 ghost use Rattle.rows.specs.Tables.{meaning-of, nothing};
-ghost use Rattle.modules.specs.Meaning.{AnswersFor, line-rows-of, modules-of, name-of, no-module, no-rows, site-rows-of};
+ghost use Rattle.modules.specs.Meaning.{AnswersFor, modules-of, no-module};
 ghost use Rattle.modules.specs.BadRows.{bad-row};
 ghost use Rattle.modules.proofs.Good.{means-regular};
 ghost use Rattle.row_provider.specs.Opening.{refused, no-modules};
@@ -40,6 +39,9 @@ use rows::source::RowSource;
 use rows::source::RowSourceImage;
 use rows::tables::ImageRows;
 use table::find;
+
+// Rows that are not asked for.
+const NO_ROWS: RowRange = RowRange { first: 0, count: 0 };
 
 // Tables of which no row is bad.
 #[derive(Clone, Copy)]
@@ -140,21 +142,42 @@ pub impl<'a> ModuleProvider for RowProvider<'a> as RowProviderModules {
     }
 
     fn site_row(&self, number: u16, site: u32, start: SectionOffset, item: u32) -> Entry<SiteRow> {
-        match self.site_list(number, site, start) {
+        let key = SiteList {
+            site,
+            start,
+            rows: NO_ROWS,
+            ending: Ending::Clean,
+        };
+        let lists = self.row(number).site_lists.of(self.modules.site_lists);
+        match find(lists, &key) {
             Some(list) => entry_at(list.rows.of(self.modules.site_rows), list.ending, item),
             None => Entry::End(Ending::Clean),
         }
     }
 
     fn line_row(&self, number: u16, start: SectionOffset, item: u32) -> Entry<LineRow> {
-        match self.line_list(number, start) {
+        let key = LineList {
+            start,
+            rows: NO_ROWS,
+            ending: Ending::Clean,
+        };
+        let lists = self.row(number).line_lists.of(self.modules.line_lists);
+        match find(lists, &key) {
             Some(list) => entry_at(list.rows.of(self.modules.line_rows), list.ending, item),
             None => Entry::End(Ending::Clean),
         }
     }
 
     fn file_name(&self, number: u16, file: u32) -> Option<TextPart> {
-        match self.file(number, file) {
+        let key = FileRow {
+            number: file,
+            name: TextPart {
+                start: 0,
+                length: 0,
+            },
+        };
+        let files = self.row(number).files.of(self.modules.files);
+        match find(files, &key) {
             Some(file) => Some(file.name),
             None => None,
         }
@@ -174,48 +197,6 @@ impl RowProvider<'_> {
             _ => no_module(),
         }
     }
-
-    fn site_list(&self, number: u16, site: u32, start: SectionOffset) -> Option<SiteList>
-        ensures { λ r. ⌜ content (modules-of (now (self .entry) .modules) .at number) .site-rows site start ≡ site-rows-of (now (self .entry) .modules) r ⌝ }
-    {
-        let key = SiteList {
-            site,
-            start,
-            rows: no_rows(),
-            ending: Ending::Clean,
-        };
-        find(self.row(number).site_lists.of(self.modules.site_lists), &key)
-    }
-
-    fn line_list(&self, number: u16, start: SectionOffset) -> Option<LineList>
-        ensures { λ r. ⌜ content (modules-of (now (self .entry) .modules) .at number) .line-rows start ≡ line-rows-of (now (self .entry) .modules) r ⌝ }
-    {
-        let key = LineList {
-            start,
-            rows: no_rows(),
-            ending: Ending::Clean,
-        };
-        find(self.row(number).line_lists.of(self.modules.line_lists), &key)
-    }
-
-    fn file(&self, number: u16, file: u32) -> Option<FileRow>
-        ensures { λ r. ⌜ content (modules-of (now (self .entry) .modules) .at number) .file file ≡ name-of r ⌝ }
-    {
-        let key = FileRow {
-            number: file,
-            name: TextPart {
-                start: 0,
-                length: 0,
-            },
-        };
-        find(self.row(number).files.of(self.modules.files), &key)
-    }
-}
-
-fn no_rows() -> RowRange
-    ensures { λ r. ⌜ r ≡ no-rows ⌝ }
-{
-    RowRange { first: 0, count: 0 }
 }
 
 fn no_module() -> ModuleRow
@@ -223,12 +204,12 @@ fn no_module() -> ModuleRow
 {
     ModuleRow {
         state: ModuleState::Absent,
-        symbols: no_rows(),
+        symbols: NO_ROWS,
         symbols_end: Ending::Clean,
         extras: Ending::Clean,
-        site_lists: no_rows(),
-        line_lists: no_rows(),
-        files: no_rows(),
+        site_lists: NO_ROWS,
+        line_lists: NO_ROWS,
+        files: NO_ROWS,
     }
 }
 

@@ -9,17 +9,17 @@ ghost use Rattle.base.specs.declared.context.KnownStart.{KnownStart as Start};
 ghost use Rattle.base.specs.declared.context.Contribution.{Contribution as Row};
 ghost use Rattle.building.specs.Outcome.{Outcome};
 ghost use Rattle.building.specs.Filling.{Holds, Filed, Filled};
-ghost use Rattle.steps.specs.Used.{used};
+ghost use Rattle.sections.specs.Used.{used};
 use crate::blocks::check_overlaps;
 use crate::blocks::read_contributions;
-use crate::check::read_sections;
-use crate::sections::Sections;
-use crate::starts::add_section_ends;
-use crate::starts::read_public_symbols;
 use base::context::Contribution;
 use base::context::KnownStart;
 use base::refusal::Refusal;
 use image::ImageSource;
+use sections::Sections;
+use sections::read_sections;
+use starts::add_section_ends;
+use starts::read_public_symbols;
 use table::Table;
 
 // Fills two tables of which no row is used yet; answers the sections.

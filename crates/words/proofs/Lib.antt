@@ -1,3 +1,4 @@
 mod Digits
 mod Escapes
 mod Cutting
+pub mod Scanning

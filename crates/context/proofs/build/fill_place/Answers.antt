@@ -13,7 +13,7 @@ use Rattle.building.proofs.Filling.{holds-start, filed-start}
 use Rattle.building.specs.Outcome.{all-kept}
 use Rattle.building.proofs.Outcomes.{filled-outcome, one-outcome}
 use Rattle.building.proofs.Runs.{blocks-are-runs}
-use Rattle.steps.specs.Used.{used}
+use Rattle.sections.specs.Used.{used}
 use Rattle.context.proofs.build.fill_place.Given as given
 use Rattle.context.proofs.build.fill_place.Needs as need
 
@@ -32,8 +32,8 @@ ghost-place g c =
     let h = holds-start starts (c .over-starts .result .rows .now) (c .over-starts .result .count) (c .over-starts .ensures .rows ∙ ap (λ r. now r) (c .replace .ensures .value)) (c .over-starts .ensures .count) in
     let f = filed-start rows (c .over-contributions .result .rows .now) (c .over-contributions .result .count) (c .over-contributions .ensures .rows ∙ ap (λ r. now r) (c .replace-2 .ensures .value)) (c .over-contributions .ensures .count) in
     let filled = c .in-Ok .ensures tt .filled starts rows h f in
-    let whole : c .fill .last .starts .count - 0 ≡ c .fill .last .starts .count = omega arith in
-    (filled .starts-hold .untouched .few, (filled .rows-filed .untouched .few, (filled .starts-hold .known .rises, (filled .rows-filed .stands .in-order, (filled .rows-apart, (c .count-named-named-count .ensures ∙ ap (λ n. length (kept-by named (take n (c .fill .last .starts .rows .now)))) whole, tt))))))
+    let whole : c .fill-filled .last .starts .count - 0 ≡ c .fill-filled .last .starts .count = omega arith in
+    (filled .starts-hold .untouched .few, (filled .rows-filed .untouched .few, (filled .starts-hold .known .rises, (filled .rows-filed .stands .in-order, (filled .rows-apart, (c .count-named-named-count .ensures ∙ ap (λ n. length (kept-by named (take n (c .fill-filled .last .starts .rows .now)))) whole, tt))))))
 
 pub returns-in-Ok : need.returns-in-Ok
 returns-in-Ok g c =
@@ -45,7 +45,7 @@ returns-in-Ok g c =
     let filled = c .in-Ok .ensures tt .filled starts rows h f in
     record {
       granted = record {
-        outcome = filled-outcome i (used (c .in-Ok .sections)) starts (c .fill .last .starts .rows .now) (c .fill .last .starts .count) rows (c .fill .last .contributions .rows .now) (c .fill .last .contributions .count) filled;
+        outcome = filled-outcome i (used (c .in-Ok .sections)) starts (c .fill-filled .last .starts .rows .now) (c .fill-filled .last .starts .count) rows (c .fill-filled .last .contributions .rows .now) (c .fill-filled .last .contributions .count) filled;
         starts-rest = filled .starts-hold .untouched;
         contributions-rest = filled .rows-filed .untouched;
       };
@@ -71,12 +71,12 @@ returns-in-Err g c =
       granted = tt;
       refused = c .in-Err .ensures tt .refused starts rows h f;
       place = refl;
-      starts = c .fill .ensures .starts-long ∙ ap length es;
-      contributions = c .fill .ensures .contributions-long ∙ ap length ec;
+      starts = c .fill-filled .ensures .starts-long ∙ ap length es;
+      contributions = c .fill-filled .ensures .contributions-long ∙ ap length ec;
       taken = tt;
       given-back = (
-        c .fill .ensures .starts-lender ∙ c .over-starts .ensures .lender ∙ ap (λ r. name r) (c .replace .ensures .value),
-        c .fill .ensures .contributions-lender ∙ c .over-contributions .ensures .lender ∙ ap (λ r. name r) (c .replace-2 .ensures .value),
+        c .fill-filled .ensures .starts-lender ∙ c .over-starts .ensures .lender ∙ ap (λ r. name r) (c .replace .ensures .value),
+        c .fill-filled .ensures .contributions-lender ∙ c .over-contributions .ensures .lender ∙ ap (λ r. name r) (c .replace-2 .ensures .value),
       );
       runs = blocks-are-runs (all-kept (g .S·ImageSource .image (c .args .source .now)));
       one = one-outcome (g .S·ImageSource .image (c .args .source .now)) (length starts) (length rows);

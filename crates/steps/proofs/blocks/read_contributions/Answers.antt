@@ -25,7 +25,7 @@ use Rattle.building.specs.Filling.{Holds, Filed, Reading, Proper}
 use Rattle.building.proofs.Items.{item-within, entry-item, entry-end, end-take, refused-here, refused-on, refused-none}
 use Rattle.building.proofs.Outcomes.{or-some, or-none, never-ok}
 use Rattle.building.proofs.Reading.{reading-none, kept-more-by, counted-size, counted-refusal, kept-as-before, skipped-refusal}
-use Rattle.steps.specs.Used.{used}
+use Rattle.sections.specs.Used.{used}
 use Rattle.steps.proofs.blocks.read_contributions.Given as given
 use Rattle.steps.proofs.blocks.read_contributions.Needs as need
 use Rattle.steps.proofs.blocks.read_contributions.Needs.{then-keeps·in-Continue-block, else-keeps}

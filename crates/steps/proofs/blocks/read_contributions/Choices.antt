@@ -8,7 +8,7 @@ use Rattle.base.specs.declared.context.Contribution.{Contribution}
 use Rattle.building.specs.Starts.{kept}
 use Rattle.building.specs.Outcome.{all-symbols, first-refusal, contribution-refusal}
 use Rattle.building.specs.Filling.{Holds, Filed, Reading}
-use Rattle.steps.specs.Used.{used}
+use Rattle.sections.specs.Used.{used}
 use Rattle.steps.proofs.blocks.read_contributions.Given as given
 
 abbrev pub Inv-loop-contribution : given.InvT-loop-contribution

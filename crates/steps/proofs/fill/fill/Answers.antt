@@ -17,7 +17,7 @@ use Rattle.building.specs.Outcome.{Outcome, all-symbols, all-kept, ends-refused
 use Rattle.building.specs.Filling.{Holds, Filed, Proper}
 use Rattle.building.proofs.Blocks.{apart-all, stands-all}
 use Rattle.building.proofs.Outcomes.{read-symbols, read-ends, refused-sections, refused-symbols, refused-contributions, refused-overlap, refused-ends, granted, none-made}
-use Rattle.steps.specs.Used.{used}
+use Rattle.sections.specs.Used.{used}
 use Rattle.steps.proofs.fill.fill.Given as given
 use Rattle.steps.proofs.fill.fill.Needs as need
 

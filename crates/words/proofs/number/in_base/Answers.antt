@@ -1,10 +1,25 @@
 use mathlib.Core.Path.{sym, ap, _∙_}
 use native.Mathlib.Omega.{arith}
 use Prim.Native.Nat.{_<_}
+use native.Mathlib.Nat.{mul-le-mul}
 use lib.ListN.{length}
 use Rattle.std.proofs.shelf.Tests.{eqb-false}
 use Rattle.words.proofs.Digits.{no-digit, one-more, fits, too-large}
 use Rattle.words.proofs.number.in_base.Needs as need
+
+pub mul-value : need.mul-value
+mul-value c = let p = mul-le-mul (c .loop-b .inv .1) (c .pre .high-bound) in omega arith
+
+pub cast-digit : need.cast-digit
+cast-digit c = omega (arith, c .in-Some .ensures tt .checked .0, c .in-Some .ensures tt .checked .1)
+
+pub add-value : need.add-value
+add-value c =
+    let p = mul-le-mul (c .loop-b .inv .1) (c .pre .high-bound) in
+    omega (arith, c .in-Some .ensures tt .checked .0, c .in-Some .ensures tt .checked .1)
+
+pub cast-result : need.cast-result
+cast-result c = omega arith
 
 pub returns-in-rest : need.returns-in-rest
 returns-in-rest c =

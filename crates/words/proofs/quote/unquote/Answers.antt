@@ -1,12 +1,14 @@
-use mathlib.Core.Path.{sym, ap, _∙_}
+use mathlib.Core.Path.{sym, ap, subst, _∙_}
 use mathlib.Core.List.{_++_, append-nil}
 use Rattle.std.proofs.Told.{chosen}
+use Rattle.std.proofs.shelf.Results.{err-from-errBy}
 use Rattle.std.specs.Of.Vec.{vec-items}
 use Rattle.std.specs.Options.{mapped}
 use Rattle.std.specs.Results.{isOk}
 use Rattle.std.specs.Vec.{listOf}
 use Rattle.std.specs.declared.option.Option.the-variants.{Some}
-use Rattle.words.specs.Quotes.{finished}
+use Rattle.std.specs.declared.result.Result.the-variants.{Err}
+use Rattle.words.specs.Quotes.{finished, Unquotes}
 use Rattle.words.proofs.Escapes.{stopped, one-more, ended, unended}
 use Rattle.words.proofs.quote.unquote.Needs as need
 use Rattle.words.proofs.quote.unquote.Needs.{in-Some-byte·in-Continue-push, in-rest-byte}
@@ -14,6 +16,14 @@ use Rattle.words.proofs.quote.unquote.Needs.{in-Some-byte·in-Continue-push, i
 pub returns-in-rest : need.returns-in-rest
 returns-in-rest c =
     stopped (c .loop-b .b-index) (c .loop-b .inv) (c .loop-b-test .taken) (sym (c .step .ensures .value) ∙ c .in-rest .is)
+
+pub step-requires : need.step-requires
+step-requires c κs = c .loop-b .inv .sound
+
+pub returns-in-Break-push : need.returns-in-Break-push
+returns-in-Break-push c =
+    let p = err-from-errBy (c .from-residual .result) (c .from-residual .ensures .1) in
+    subst (Unquotes (c .args .raw .now) (vec-items (c .args .out .now)) (vec-items (c .push .last .self))) (sym (p .1 ∙ ap Err (p .2))) tt
 
 pub loop-b-again : need.loop-b-again
 loop-b-again c =
