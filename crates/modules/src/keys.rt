@@ -1,4 +1,4 @@
-// The rows that are searched for by a key. Each key stands once in its part, so the first row of a key is the only one.
+// The rows that are found by a key. Each key stands once in its part, so the first row of a key is the only one.
 ghost use Rattle.order.specs.Rank.{Compared};
 ghost use Rattle.order.specs.declared.Meeting.the-variants.{Stays};
 ghost use Rattle.modules.specs.Ranks.{site-rank, line-rank, file-rank, offset-key};

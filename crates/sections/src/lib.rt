@@ -9,6 +9,7 @@ ghost use Rattle.std.specs.Vec.{made};
 ghost use Rattle.building.specs.Starts.{executable, keeps};
 ghost use Rattle.building.specs.Outcome.{top, most-sections, first-refusal, section-refusal};
 ghost use Rattle.sections.specs.Used.{used};
+
 mod list;
 
 use base::image::Section;

@@ -83,10 +83,7 @@ pub fn read_public_symbols<S: ImageSource>(
 }
 
 // An unnamed start at the end of each executable section.
-pub fn add_section_ends(
-    sections: &Sections,
-    starts: &mut Table<KnownStart>,
-) -> Result<(), Refusal>
+pub fn add_section_ends(sections: &Sections, starts: &mut Table<KnownStart>) -> Result<(), Refusal>
     ensures refused { λ r. ⌜ ((cs old : List Start) → Holds cs old (now (now (starts .entry) .rows)) (now (starts .entry) .count) → errPart r ≡ cond (ltb (length old) (offset-count (cs ++ section-ends 1 (used (now (sections .entry)))))) (Some (StartTableFull AddSectionEnds)) None) ⌝ }
     ensures added { λ r. ⌜ ((cs old : List Start) → Holds cs old (now (now (starts .entry) .rows)) (now (starts .entry) .count) → isOk r ≡ true → Holds (cs ++ section-ends 1 (used (now (sections .entry)))) old (now (now (starts .exit) .rows)) (now (starts .exit) .count)) ⌝ }
     ensures lender { λ _. ⌜ name (now (starts .exit) .rows) ≡ name (now (starts .entry) .rows) ⌝ }

@@ -70,7 +70,7 @@ impl<'t, R: Row + Copy> Table<'t, R> {
     }
 }
 
-// Where `row` goes: a binary search for the number of rows that come before it.
+// Where `row` goes, by bisection: the number of rows that come before it.
 pub fn position<R: Row>(rows: &[R], row: &R) -> usize
     ensures within { λ r. ⌜ r ≤ length (now (rows .entry)) ⌝ }
     ensures place { λ r. ⌜ (InOrder (R·Row .rank) (now (rows .entry)) → Place (R·Row .rank) (now (rows .entry)) (R·Row .rank (now (row .entry))) r) ⌝ }

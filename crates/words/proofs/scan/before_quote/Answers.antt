@@ -11,7 +11,7 @@ pub returns-then-b-eq34 : need.returns-then-b-eq34
 returns-then-b-eq34 c = record { value = quote-here _ _ (subst (Within (c .args .bytes .now) (c .loop-i .i)) (c .if-escaped .left) (c .loop-i .inv)) (c .loop-i-test .taken) (c .if-b-eq34 .taken); within = c .loop-i-test .taken }
 
 pub loop-i-again : need.loop-i-again
-loop-i-again c = 
+loop-i-again c =
     let xs = c .args .bytes .now in
     let i = c .loop-i .i in
     elim (c .if-escaped .came) [
