@@ -30,10 +30,8 @@ impl<P: ModuleProvider> Resolver<P> {
         ensures provider { λ r. ⌜ r .provider ≡ provider ⌝ }
         ensures shelf { λ r. ⌜ shelved (r .shelf) ≡ empty-shelf ⌝ }
     {
-        Resolver {
-            provider,
-            shelf: Shelf::empty(),
-        }
+        let shelf = Shelf::empty();
+        Resolver { provider, shelf }
     }
 
     // The function that an address belongs to, or none.
