@@ -1,1 +1,7 @@
+mod Growing
+mod Options
 mod Saying
+mod Shortness
+mod Sizes
+mod Naming
+mod Soundness

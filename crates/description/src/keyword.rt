@@ -1,7 +1,7 @@
 // The words that the format knows.
 #[derive(Clone, Copy)]
 pub enum Keyword {
-    // words that begin a row
+    // words that begin a row of an image
     Text,
     Section,
     Public,
@@ -9,6 +9,24 @@ pub enum Keyword {
     Publics,
     Contributions,
     Table,
+    // words that begin a row of a module
+    Module,
+    Procedure,
+    Thunk,
+    Separated,
+    Site,
+    OtherRecord,
+    Symbols,
+    Extras,
+    File,
+    Lines,
+    Line,
+    Inlined,
+    Range,
+    // words that begin a row of what is asked
+    Hide,
+    Find,
+    Same,
     // words within a row
     Executable,
     Data,
@@ -16,10 +34,15 @@ pub enum Keyword {
     Clean,
     Fault,
     Starts,
-    Other,
+    Present,
+    Absent,
+    Broken,
+    Readable,
+    None,
+    Unknown,
 }
 
-static KEYWORDS: [(&'static str, Keyword); 13] = [
+static KEYWORDS: [(&'static str, Keyword); 34] = [
     ("text", Keyword::Text),
     ("section", Keyword::Section),
     ("public", Keyword::Public),
@@ -27,12 +50,33 @@ static KEYWORDS: [(&'static str, Keyword); 13] = [
     ("publics", Keyword::Publics),
     ("contributions", Keyword::Contributions),
     ("table", Keyword::Table),
+    ("module", Keyword::Module),
+    ("procedure", Keyword::Procedure),
+    ("thunk", Keyword::Thunk),
+    ("separated", Keyword::Separated),
+    ("site", Keyword::Site),
+    ("other", Keyword::OtherRecord),
+    ("symbols", Keyword::Symbols),
+    ("extras", Keyword::Extras),
+    ("file", Keyword::File),
+    ("lines", Keyword::Lines),
+    ("line", Keyword::Line),
+    ("inlined", Keyword::Inlined),
+    ("range", Keyword::Range),
+    ("hide", Keyword::Hide),
+    ("find", Keyword::Find),
+    ("same", Keyword::Same),
     ("executable", Keyword::Executable),
     ("data", Keyword::Data),
     ("end", Keyword::End),
     ("clean", Keyword::Clean),
     ("fault", Keyword::Fault),
     ("starts", Keyword::Starts),
+    ("present", Keyword::Present),
+    ("absent", Keyword::Absent),
+    ("broken", Keyword::Broken),
+    ("readable", Keyword::Readable),
+    ("none", Keyword::None),
 ];
 
 pub fn keyword_of(word: &[u8]) -> Keyword {
@@ -41,5 +85,5 @@ pub fn keyword_of(word: &[u8]) -> Keyword {
             return *keyword;
         }
     }
-    Keyword::Other
+    Keyword::Unknown
 }

@@ -5,7 +5,6 @@ use std::alloc::AllocError;
 use std::alloc::Refused;
 use std::fmt;
 use words::quote::QuoteError;
-use words::scan::OpenQuote;
 
 #[derive(Clone, Copy)]
 pub enum Mistake {
@@ -25,8 +24,17 @@ pub enum Mistake {
     NotAName,
     NotAKind,
     NotAnEnding,
+    NotAFault,
+    NotExtras,
+    NotAState,
     NotATable,
     TableTooLarge,
+    ThunkTooLong,
+    NoModule,
+    NoLines,
+    NoSite,
+    SymbolsEndTwice,
+    ExtrasTwice,
     PublicsEndTwice,
     ContributionsEndTwice,
     TableTwice,
@@ -35,7 +43,7 @@ pub enum Mistake {
 }
 
 impl Mistake {
-    pub fn text(&self) -> &'static str {
+    pub(crate) fn text(&self) -> &'static str {
         match self {
             Mistake::UnknownRow => "no row begins with this word",
             Mistake::MissingWord => "a word is missing at the end",
@@ -53,8 +61,17 @@ impl Mistake {
             Mistake::NotAName => "a name is quoted, or written START+LENGTH",
             Mistake::NotAKind => "a section is executable or data",
             Mistake::NotAnEnding => "a list has `end clean` or `end fault CODE`",
+            Mistake::NotAFault => "after its start a list has nothing or `fault CODE`",
+            Mistake::NotExtras => "extras are `readable` or `fault CODE`",
+            Mistake::NotAState => "a module is present, absent or broken",
             Mistake::NotATable => "a table is starts or contributions",
             Mistake::TableTooLarge => "a table has at most 16777216 rows",
+            Mistake::ThunkTooLong => "the length of a thunk is at most 65535",
+            Mistake::NoModule => "no module stands above this row",
+            Mistake::NoLines => "no `lines` of its module stands above this row",
+            Mistake::NoSite => "no `inlined` of its module stands above this row",
+            Mistake::SymbolsEndTwice => "the end of the symbols is said twice of this module",
+            Mistake::ExtrasTwice => "the extras are said twice of this module",
             Mistake::PublicsEndTwice => "the end of the publics is said twice",
             Mistake::ContributionsEndTwice => "the end of the contributions is said twice",
             Mistake::TableTwice => "the size of this table is said twice",
@@ -67,12 +84,6 @@ impl Mistake {
 pub impl fmt::Display for Mistake as MistakeDisplay {
     fn fmt<W: fmt::Write>(&self, f: &mut fmt::Formatter<W>) -> fmt::Result {
         f.write_str(self.text())
-    }
-}
-
-pub impl From<OpenQuote> for Mistake as MistakeFromOpenQuote {
-    fn from(_e: OpenQuote) -> Mistake {
-        Mistake::QuoteLeftOpen
     }
 }
 
@@ -124,7 +135,7 @@ pub enum ReadError {
 }
 
 impl Fault {
-    pub fn at(self, line: u64) -> ReadError {
+    pub(crate) fn at(self, line: u64) -> ReadError {
         match self {
             Fault::Wrong(mistake) => ReadError::At { line, mistake },
             Fault::NoMemory => ReadError::NoMemory,

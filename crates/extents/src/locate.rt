@@ -27,12 +27,10 @@ fn spot_of(sections: &Sections, address: u32) -> Option<Spot>
     ensures spot { λ r. ⌜ r ≡ spot 1 (used (now (sections .entry))) address ⌝ }
     ensures below { λ r. ⌜ Cases r (Unit {0}) (λ s. s .offset .offset < 4294967295) ⌝ }
 {
-    let mut number: u16 = 1;
-    for section in &sections.rows[0..sections.count] {
-        if let Some(spot) = spot_in(number, *section, address) {
+    for k in 0..sections.count {
+        if let Some(spot) = spot_in(k as u16 + 1, sections.rows[k], address) {
             return Some(spot);
         }
-        number += 1;
     }
     None
 }

@@ -1,13 +1,13 @@
 -- What a search finds, by the one place where it looks. Assumes nothing.
 use mathlib.Core.Path.{_≡_, refl, sym, ap, subst, _∙_}
-use mathlib.Core.Logic.{_⊎_, ⊎-elim}
-use mathlib.Core.Bool.{Bool, true, false, cond, _&&_}
+use mathlib.Core.Logic.{⊎-elim}
+use mathlib.Core.Bool.{Bool, true, false, cond}
 use mathlib.Core.List.{List, [], _∷_}
 use Prim.Native.Nat.{ℕ, _+_, _-_, _^_, _≤_, _<_}
 use native.Mathlib.Omega.{arith}
 use lib.Dec.{leb, ltb, eqb}
 use lib.ListN.{length, getD, take, drop}
-use Rattle.std.proofs.shelf.Lists.{getD-default, getD-drop, length-drop, take-more, take-append-drop, at-drop-more, at-drop-all}
+use Rattle.std.proofs.shelf.Lists.{getD-default, getD-take, getD-drop, length-take, length-take-le, length-drop, take-more, take-append-drop, at-drop-more, at-drop-all}
 use Rattle.std.proofs.shelf.Ways.{tells}
 use Rattle.std.proofs.shelf.Tests.{cases-lt, cases-bool, and-left, and-parts, leb-true, cond-true, cond-false}
 use Rattle.std.specs.declared.option.Option.{Option}
@@ -31,25 +31,33 @@ use Rattle.lookup.specs.Finding.{covers, chosen, reaches, follows, of-procedur
 use Rattle.lookup.proofs.Choosing.{none-some, first-at, first-never, last-at, last-never, last-passes, last-append, last-push}
 
 -- one that passes, or what else there is
-pub found-one : {Y : Type 0} (b : Bool) (x y : Y) (rest : Option Y) → Some x ≡ cond b (Some y) None → cond b (Some y) rest ≡ Some x
+found-one : {Y : Type 0} (b : Bool) (x y : Y) (rest : Option Y) → Some x ≡ cond b (Some y) None → cond b (Some y) rest ≡ Some x
 found-one true x y rest h = sym h
 found-one false x y rest h = absurd (none-some x (sym h))
 
-pub found-else : {Y : Type 0} (b : Bool) (y : Y) (rest : Option Y) → None ≡ cond b (Some y) None → cond b (Some y) rest ≡ rest
+found-else : {Y : Type 0} (b : Bool) (y : Y) (rest : Option Y) → None ≡ cond b (Some y) None → cond b (Some y) rest ≡ rest
 found-else true y rest h = absurd (none-some y h)
 found-else false y rest h = refl
 
--- sections, one after the other
-module _ (n : ℕ) (ss : List Section) (a k : ℕ) where
-  module _ (s : Section) (l : k < length ss) where
-    pub spot-here : (x : Spot) → Some x ≡ spot n (getD ss k s ∷ []) a → spot n (drop k ss) a ≡ Some x
-    spot-here x h = at-drop-more (λ xs. spot n xs a) ss k s l ∙ found-one (inside ((getD ss k s) .address) ((getD ss k s) .address + (getD ss k s) .size) a) x _ (spot (n + 1) (drop (k + 1) ss) a) h
+-- sections, one after the other; the first rows of a list are used
+module _ (n : ℕ) (rows : List Section) (count a k : ℕ) where
+  module _ (few : count ≤ length rows) (d : Section) (l : k < count) where
+    step-section : spot n (drop k (take count rows)) a ≡ spot n (getD rows k d ∷ drop (k + 1) (take count rows)) a
+    step-section =
+        let within : k < length (take count rows) = (let m = length-take-le count rows few in omega arith) in
+        at-drop-more (λ xs. spot n xs a) (take count rows) k d within ∙ ap (λ s. spot n (s ∷ drop (k + 1) (take count rows)) a) (getD-take count rows k d l)
 
-    pub spot-on : None ≡ spot n (getD ss k s ∷ []) a → spot n (drop k ss) a ≡ spot (n + 1) (drop (k + 1) ss) a
-    spot-on h = at-drop-more (λ xs. spot n xs a) ss k s l ∙ found-else (inside ((getD ss k s) .address) ((getD ss k s) .address + (getD ss k s) .size) a) _ (spot (n + 1) (drop (k + 1) ss) a) h
+    abbrev here : Bool
+    here = inside ((getD rows k d) .address) ((getD rows k d) .address + (getD rows k d) .size) a
 
-  pub spot-nowhere : length ss ≤ k → spot n (drop k ss) a ≡ None
-  spot-nowhere l = at-drop-all (λ xs. spot n xs a) ss k l
+    pub spot-here : (x : Spot) → Some x ≡ spot n (getD rows k d ∷ []) a → spot n (drop k (take count rows)) a ≡ Some x
+    spot-here x h = step-section ∙ found-one here x _ (spot (n + 1) (drop (k + 1) (take count rows)) a) h
+
+    pub spot-on : None ≡ spot n (getD rows k d ∷ []) a → spot n (drop k (take count rows)) a ≡ spot (n + 1) (drop (k + 1) (take count rows)) a
+    spot-on h = step-section ∙ found-else here _ (spot (n + 1) (drop (k + 1) (take count rows)) a) h
+
+  pub spot-nowhere : count ≤ k → spot n (drop k (take count rows)) a ≡ None
+  spot-nowhere l = at-drop-all (λ xs. spot n xs a) (take count rows) k (let m = length-take count rows in omega arith)
 
 -- contributions that lie apart: where a row just above a place goes, only the one before it can contain the place
 abbrev above : SectionOffset → List ℕ

@@ -1,22 +1,26 @@
-// Reads the descriptions of images from files, builds the context of each image, and prints what it holds or why it is refused. The path `-` stands
-// for standard input, which is read too where no path is given. Nothing is printed unless every description is good.
-mod answer;
+// Reads the descriptions of images from files, builds the context of each image, prints what it holds or why it is refused, and answers which
+// function an address lies in. Nothing is printed unless the command line, the files of addresses and the descriptions are all good.
+mod addresses;
+mod answers;
 mod failure;
+mod input;
+mod options;
+mod page;
+mod print;
 mod refused;
 
-use answer::write_answer;
+use answers::write_image;
+use description::mistake::ReadErrorDisplay;
 use description::read_description;
 use failure::Failure;
 use failure::FailureDisplay;
-use failure::FailureFromAlloc;
-use failure::FailureFromIo;
-use printing::push_escaped;
-use std::alloc::AllocError;
+use failure::wrong;
+use input::Input;
+use input::shown;
+use options::Options;
+use options::read_options;
+use page::Page;
 use std::alloc::Global;
-use std::env;
-use std::fs;
-use std::io;
-use std::io::Read;
 
 fn main(rt: LibcRuntime) -> Result<(), Failure> {
     let result = run(&rt);
@@ -27,57 +31,61 @@ fn main(rt: LibcRuntime) -> Result<(), Failure> {
 }
 
 fn run(rt: &LibcRuntime) -> Result<(), Failure> {
-    let mut out = String::new(rt.alloc());
-    let mut args = env::args(rt)?;
-    let _program = args.next();
-    let mut given = false;
-    for path in args {
-        resolve_file(rt, &mut out, path.as_str())?;
-        given = true;
+    let mut input = Input::new();
+    let options = read_options(rt, &mut input)?;
+    let mut page = Page::new(rt.alloc());
+    write_images(rt, &mut input, &options, &mut page)?;
+    print_page(rt, &page)
+}
+
+fn print_page(rt: &LibcRuntime, page: &Page) -> Result<(), Failure> {
+    if page.full {
+        return Err(Failure::NoMemory);
     }
-    if !given {
-        resolve_file(rt, &mut out, "-")?;
+    match rt.print(page.text.as_str()) {
+        Ok(()) => Ok(()),
+        Err(error) => Err(wrong(rt.alloc(), "resolve", error)),
     }
-    rt.print(out.as_str())?;
+}
+
+fn write_images(
+    rt: &LibcRuntime,
+    input: &mut Input,
+    options: &Options,
+    page: &mut Page,
+) -> Result<(), Failure> {
+    for path in options.paths.iter() {
+        write_path(rt, input, options, page, path.as_str())?;
+    }
+    if options.paths.is_empty() {
+        write_path(rt, input, options, page, "-")?;
+    }
     Ok(())
 }
 
-fn resolve_file(rt: &LibcRuntime, out: &mut String, path: &str) -> Result<(), Failure> {
-    let heap = rt.alloc();
-    let input = match read_input(rt, path) {
-        Ok(input) => input,
-        Err(error) => return Err(Failure::Unreadable {
-            path: shown_path(heap, path)?,
-            error,
-        }),
-    };
-    match read_description(heap, input.as_slice()) {
-        Ok(description) => {
-            write_path(out, path)?;
-            write_answer(heap, out, &description)
-        }
-        Err(error) => Err(Failure::Wrong {
-            path: shown_path(heap, path)?,
-            error,
-        }),
+fn write_path(
+    rt: &LibcRuntime,
+    input: &mut Input,
+    options: &Options,
+    page: &mut Page,
+    path: &str,
+) -> Result<(), Failure> {
+    let bytes = input.read(rt, path)?;
+    page.push("image ");
+    page.escaped(path.as_bytes());
+    page.end();
+    write_description(rt.alloc(), page, options, path, bytes.as_slice())
+}
+
+fn write_description(
+    heap: Global,
+    page: &mut Page,
+    options: &Options,
+    path: &str,
+    bytes: &[u8],
+) -> Result<(), Failure> {
+    match read_description(heap, bytes) {
+        Ok(description) => write_image(heap, page, &description, options),
+        Err(error) => Err(wrong(heap, shown(path), error)),
     }
-}
-
-fn read_input(rt: &LibcRuntime, path: &str) -> io::Result<Vec<u8>> {
-    if path != "-" {
-        return fs::read(rt, path);
-    }
-    let mut input = Vec::new(rt.alloc());
-    rt.stdin().read_to_end(&mut input)?;
-    Ok(input)
-}
-
-fn shown_path(heap: Global, path: &str) -> Result<String, AllocError> {
-    String::from_str(heap, if path == "-" { "standard input" } else { path })
-}
-
-fn write_path(out: &mut String, path: &str) -> Result<(), AllocError> {
-    out.push_str("image ")?;
-    push_escaped(out, path.as_bytes())?;
-    out.push('\n')
 }

@@ -1,29 +1,37 @@
 // Refusals in words.
-use crate::failure::Failure;
-use crate::failure::FailureFromFmt;
+use crate::page::Page;
 use base::refusal::FaultyList;
 use base::refusal::Refusal;
 use base::refusal::RowTable;
 use base::refusal::Step;
-use std::fmt::Write;
 
 // What is refused, at which step, and then each thing that the refusal names.
-pub fn write_refusal(out: &mut String, refusal: &Refusal) -> Result<(), Failure> {
-    let number = refusal.number();
-    let what = what(*refusal);
-    let step = step_name(refusal.step());
-    write!(out, "refused {number}: {what}, at {step}")?;
-    if let Some(item) = refusal.item() {
-        write!(out, ", item {item}")?;
-    }
-    if let Some(module) = refusal.module() {
-        write!(out, ", module {module}")?;
-    }
-    write_rest(out, refusal)?;
-    writeln!(out, "")?;
-    Ok(())
+pub fn write_refusal(page: &mut Page, refusal: &Refusal) {
+    page.push("refused ");
+    page.number(refusal.number() as u64);
+    page.push(": ");
+    page.push(what(*refusal));
+    page.push(", at ");
+    page.push(step_name(refusal.step()));
+    write_named(page, ", item ", refusal.item());
+    write_module(page, refusal.module());
+    write_rest(page, refusal);
+    page.end();
 }
 
+fn write_named(page: &mut Page, name: &str, number: Option<u32>) {
+    if let Some(number) = number {
+        page.push(name);
+        page.number(number as u64);
+    }
+}
+
+fn write_module(page: &mut Page, module: Option<u16>) {
+    if let Some(module) = module {
+        page.push(", module ");
+        page.number(module as u64);
+    }
+}
 fn what(refusal: Refusal) -> &'static str {
     match refusal {
         Refusal::StartTableFull { .. } => "the table of starts is full",
@@ -65,28 +73,48 @@ fn step_name(step: Step) -> &'static str {
 }
 
 // What a refusal names besides its item and its one module.
-fn write_rest(out: &mut String, refusal: &Refusal) -> Result<(), Failure> {
+fn write_rest(page: &mut Page, refusal: &Refusal) {
     match refusal {
-        Refusal::FrameTableShort { needed } => write!(out, ", {needed} rows needed")?,
-        Refusal::BadRow { table, row } => {
-            let table = table_name(*table);
-            write!(out, ", table {table}, row {row}")?;
+        Refusal::FrameTableShort { needed } => {
+            page.push(", ");
+            page.number(*needed as u64);
+            page.push(" rows needed");
         }
-        Refusal::Unordered { section, .. } => write!(out, ", section {section}")?,
+        Refusal::BadRow { table, row } => write_row(page, *table, *row),
+        Refusal::Unordered { section, .. } => write_section(page, *section),
         Refusal::Overlapping {
             section,
             first,
             second,
         } => {
-            write!(out, ", modules {first} and {second}, section {section}")?;
+            page.push(", modules ");
+            page.number(*first as u64);
+            page.push(" and ");
+            page.number(*second as u64);
+            write_section(page, *section);
         }
-        Refusal::Fault { list, code } => {
-            let list = list_name(*list);
-            write!(out, ", code {code}, list {list}")?;
-        }
+        Refusal::Fault { list, code } => write_fault(page, *list, *code),
         _ => {}
     }
-    Ok(())
+}
+
+fn write_section(page: &mut Page, section: u16) {
+    page.push(", section ");
+    page.number(section as u64);
+}
+
+fn write_row(page: &mut Page, table: RowTable, row: u64) {
+    page.push(", table ");
+    page.push(table_name(table));
+    page.push(", row ");
+    page.number(row);
+}
+
+fn write_fault(page: &mut Page, list: FaultyList, code: u16) {
+    page.push(", code ");
+    page.number(code as u64);
+    page.push(", list ");
+    page.push(list_name(list));
 }
 
 fn table_name(table: RowTable) -> &'static str {

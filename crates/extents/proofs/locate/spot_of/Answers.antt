@@ -1,29 +1,29 @@
-use mathlib.Core.Path.{_≡_, sym, ap, _∙_}
+use mathlib.Core.Path.{sym, _∙_}
 use mathlib.Core.Bool.{false}
-use Prim.Native.Nat.{_-_}
-use native.Mathlib.Omega.{arith}
-use native.Mathlib.Nat.{sub-zero}
-use lib.ListN.{take}
+use Prim.Native.Nat.{_+_, _≤_}
+use borrow.Author.Needs.{needs}
+use lib.ListN.{length}
 use Rattle.base.specs.declared.image.Section.{Section}
-use Rattle.lookup.specs.Places.{spot}
 use Rattle.lookup.proofs.Searching.{spot-here, spot-on, spot-nowhere}
 use Rattle.extents.proofs.locate.spot_of.Needs as need
 
 abbrev none : Section
 none = record { address = 0; size = 0; executable = false }
 
-pub loop-section-again : need.loop-section-again
-loop-section-again c =
-    let s = c .args .sections .now in (
-      omega arith,
-      sym (spot-on (c .loop-section .number) (take (s .count - 0) (s .rows)) (c .args .address) (c .loop-section .section-index) none (c .loop-section-test .taken) (c .in-rest .ensures tt .spot)) ∙ c .loop-section .inv .1,
-    )
+pub loop-k-again : need.loop-k-again
+loop-k-again c =
+    let s = c .args .sections .now in
+    let k = c .loop-k .k in
+    let few : s .count ≤ length (s .rows) = search needs in
+    sym (spot-on (k + 1) (s .rows) (s .count) (c .args .address) k few none (c .loop-k-test .taken) (c .in-rest .ensures tt .spot)) ∙ c .loop-k .inv
 
 pub returns-in-Some : need.returns-in-Some
 returns-in-Some c =
     let s = c .args .sections .now in
+    let k = c .loop-k .k in
+    let few : s .count ≤ length (s .rows) = search needs in
     record {
-      spot = sym (spot-here (c .loop-section .number) (take (s .count - 0) (s .rows)) (c .args .address) (c .loop-section .section-index) none (c .loop-section-test .taken) (c .in-Some .spot) (c .in-Some .ensures tt .spot)) ∙ c .loop-section .inv .1 ∙ ap (λ n. spot 1 (take n (s .rows)) (c .args .address)) (sub-zero (s .count));
+      spot = sym (spot-here (k + 1) (s .rows) (s .count) (c .args .address) k few none (c .loop-k-test .taken) (c .in-Some .spot) (c .in-Some .ensures tt .spot)) ∙ c .loop-k .inv;
       below = c .in-Some .ensures tt .below;
     }
 
@@ -31,6 +31,6 @@ pub returns : need.returns
 returns c =
     let s = c .args .sections .now in
     record {
-      spot = sym (spot-nowhere (c .loop-section .number) (take (s .count - 0) (s .rows)) (c .args .address) (c .loop-section .section-index) (c .loop-section-test .left)) ∙ c .loop-section .inv .1 ∙ ap (λ n. spot 1 (take n (s .rows)) (c .args .address)) (sub-zero (s .count));
+      spot = sym (spot-nowhere (c .loop-k .k + 1) (s .rows) (s .count) (c .args .address) (c .loop-k .k) (c .loop-k-test .left)) ∙ c .loop-k .inv;
       below = tt;
     }

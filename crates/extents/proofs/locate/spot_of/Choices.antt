@@ -1,11 +1,9 @@
-use Prim.Native.Nat.{_+_, _-_}
+use Prim.Native.Nat.{_+_}
 use mathlib.Core.Path.{_≡_}
-use lib.ListN.{take, drop}
+use lib.ListN.{drop}
+use Rattle.sections.specs.Used.{used}
 use Rattle.lookup.specs.Places.{spot}
 use Rattle.extents.proofs.locate.spot_of.Given as given
 
-abbrev pub Inv-loop-section : given.InvT-loop-section
-Inv-loop-section l =
-    let rows = take (l .sections .count - 0) (l .sections .rows) in
-    (l .number ≡ l .section-index + 1)
-    × (spot (l .number) (drop (l .section-index) rows) (l .address) ≡ spot 1 rows (l .address))
+abbrev pub Inv-loop-k : given.InvT-loop-k
+Inv-loop-k l = spot (l .k + 1) (drop (l .k) (used (l .sections))) (l .address) ≡ spot 1 (used (l .sections)) (l .address)

@@ -1,10 +1,10 @@
-use mathlib.Core.Path.{_≡_, sym, ap, _∙_}
-use Prim.Native.Nat.{_+_, _-_}
+use mathlib.Core.Path.{_≡_, ap, _∙_}
+use Prim.Native.Nat.{_-_, _^_, _<_}
 use native.Mathlib.Omega.{arith}
 use lib.ListN.{length, length-append}
-use Rattle.std.specs.Of.Vec.{vec-items, vec-len}
-use Rattle.description.proofs.Saying.{is-appended}
-use Rattle.description.proofs.draft.append.Needs as need
+use Rattle.std.specs.Of.Vec.{vec-items}
+use Rattle.description.proofs.Growing.{is-appended}
+use Rattle.description.proofs.push.append.Needs as need
 
 pub cast-result : need.cast-result
 cast-result c =
@@ -24,7 +24,5 @@ returns c =
     let more = ap length (told .2) ∙ length-append old (told .0) in
     let start : c .len-start .result ≡ length old = omega (arith, c .args .text .now .ok .0) in
     let size : c .len-end .result - c .len-start .result ≡ length (told .0) = omega (arith, c .args .text .now .ok .0, c .unquote .last .out .ok .0) in
-    record {
-      value = is-appended (c .args .raw .now) old (told .0) new (c .len-start .result) (c .len-end .result - c .len-start .result) (told .1) (told .2) start size;
-      bound = omega arith;
-    }
+    let few : length new < 2 ^ 32 = omega (arith, c .unquote .last .out .ok .0) in
+    is-appended (c .args .raw .now) old (told .0) new (c .len-start .result) (c .len-end .result - c .len-start .result) (told .1) (told .2) start size few
