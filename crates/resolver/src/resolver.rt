@@ -3,7 +3,8 @@ ghost use mathlib.Core.Path.{_≡_};
 ghost use Rattle.procedures.specs.Names.{spelled, name-of};
 ghost use Rattle.lookup.specs.Reading.{empty-shelf};
 ghost use Rattle.lookup.specs.Comparing.{same-extent, same-end};
-ghost use Rattle.lookup.specs.Laws.{Extents};
+ghost use Rattle.lookup.specs.Laws.{Extents, StartsLast};
+ghost use Rattle.base.specs.declared.image.SectionOffset.{SectionOffset as Offset};
 ghost use Rattle.context.specs.Context.{meaning};
 ghost use Rattle.shelf.specs.Shelf.{shelved};
 ghost use Rattle.resolver.specs.Resolving.{found, compared};
@@ -67,6 +68,7 @@ impl<P: ModuleProvider> Resolver<P> {
         ensures shelf { λ r. ⌜ shelved (now (self .exit) .shelf) ≡ compared (P·ImageSource .image (now (self .entry) .provider)) (P·ModuleProvider .modules (now (self .entry) .provider)) (now (context .entry)) first second (now (self .entry) .shelf) .shelf ⌝ }
         ensures provider { λ r. ⌜ now (self .exit) .provider ≡ now (self .entry) .provider ⌝ }
         ensures extents { λ _. ⌜ Extents (P·ImageSource .image (now (self .entry) .provider) .text) (P·ModuleProvider .modules (now (self .entry) .provider)) (meaning (now (context .entry))) (shelved (now (self .entry) .shelf)) ⌝ }
+        ensures chosen { λ _. ⌜ ((o : Offset) → StartsLast o (shelved (now (self .entry) .shelf) .procedures)) ⌝ }
     {
         let first = self.find_function(context, first)?;
         let second = self.find_function(context, second)?;

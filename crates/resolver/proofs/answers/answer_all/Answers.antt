@@ -9,6 +9,7 @@ use Rattle.lookup.specs.Finding.{find-function}
 use Rattle.order.proofs.Insertion.{take-min}
 use Rattle.lookup.specs.Laws.{look-up}
 use Rattle.lookup.proofs.History.{Sound, sound-answers, sound-after, history}
+use Rattle.lookup.proofs.Reading.{firsts-in-order}
 use Rattle.lookup.proofs.Resolving.{drop-least, map-more}
 use Rattle.shelf.specs.Shelf.{shelved}
 use Rattle.resolver.proofs.answers.answer_all.Needs as need
@@ -23,6 +24,7 @@ returns g c =
       (take-min (c .args .addresses .now) (c .loop-k .k) (length (c .args .answers .now)) (omega arith))
       (drop-least (c .args .answers .now) (c .loop-k .k) (length (c .args .addresses .now)) (omega arith));
       provider = c .loop-k .inv .0 ∙ c .open-resolver .ensures .provider;
+      firsts = firsts-in-order;
       history = history (g .P·ImageSource .image (c .args .provider) .text) (g .P·ModuleProvider .modules (c .args .provider)) (meaning (c .args .context .now));
     }
 

@@ -4,6 +4,7 @@ use Rattle.std.specs.declared.result.Result.the-variants.{Ok, Err}
 use Rattle.context.specs.Context.{meaning}
 use Rattle.lookup.specs.Finding.{Found, find-function}
 use Rattle.lookup.specs.Laws.{Extents}
+use Rattle.lookup.proofs.Choosing.{starts-last}
 use Rattle.lookup.proofs.Extents.{extents}
 use Rattle.lookup.proofs.Resolving.{first-refused, second-refused, both-answered}
 use Rattle.shelf.specs.Shelf.{shelved}
@@ -22,6 +23,7 @@ returns-in-Break-first g c =
       shelf = c .find-function .ensures .shelf ∙ ap (λ w. w .shelf) whole;
       provider = c .find-function .ensures .provider;
       extents = extents text ms there s (c .args .context .now .rises) (c .args .self .now .shelf .rises);
+      chosen = λ o. starts-last o (s .procedures) (c .args .self .now .shelf .rises);
     }
 
 pub returns-in-Break-second : need.returns-in-Break-second
@@ -40,6 +42,7 @@ returns-in-Break-second g c =
       shelf = c .find-function-2 .ensures .shelf ∙ ap (λ w. w .shelf) second ∙ ap (λ w. w .shelf) whole;
       provider = c .find-function-2 .ensures .provider ∙ c .find-function .ensures .provider;
       extents = extents text ms there s (c .args .context .now .rises) (c .args .self .now .shelf .rises);
+      chosen = λ o. starts-last o (s .procedures) (c .args .self .now .shelf .rises);
     }
 
 pub returns : need.returns
@@ -57,4 +60,5 @@ returns g c =
       shelf = c .find-function-2 .ensures .shelf ∙ ap (λ w. w .shelf) second ∙ ap (λ w. w .shelf) whole;
       provider = c .find-function-2 .ensures .provider ∙ c .find-function .ensures .provider;
       extents = extents text ms there s (c .args .context .now .rises) (c .args .self .now .shelf .rises);
+      chosen = λ o. starts-last o (s .procedures) (c .args .self .now .shelf .rises);
     }
