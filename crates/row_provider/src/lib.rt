@@ -3,10 +3,8 @@ ghost use mathlib.Core.Path.{_≡_};
 ghost use mathlib.Core.Bool.{false};
 ghost use denote.Ref.{now};
 ghost use Rattle.std.specs.Options.{isSome};
-ghost use Rattle.std.specs.shelf.Maps.{nth};
 ghost use Rattle.std.specs.declared.option.Option.the-variants.{Some, None};
 ghost use Rattle.std.specs.declared.result.Result.the-variants.{Ok, Err};
-ghost use Rattle.image.specs.Image.{entry};
 ghost use Rattle.rows.specs.Tables.{meaning-of, nothing};
 ghost use Rattle.modules.specs.Meaning.{AnswersFor, modules-of, no-module};
 ghost use Rattle.modules.specs.BadRows.{bad-row};
@@ -37,6 +35,9 @@ use provider::symbols::SiteRow;
 use provider::symbols::SymbolRecord;
 use rows::source::RowSource;
 use rows::source::RowSourceImage;
+use rows::source::entry_at;
+use rows::source::row_at;
+
 use rows::tables::ImageRows;
 use table::find;
 
@@ -126,7 +127,7 @@ pub impl<'a> ModuleProvider for RowProvider<'a> as RowProviderModules {
     }
 
     fn module_state(&self, number: u16) -> ModuleState {
-        match row_at(self.modules.modules, number as usize) {
+        match row_at(self.modules.modules, number as u32) {
             Some(row) => row.state,
             None => ModuleState::Absent,
         }
@@ -189,7 +190,7 @@ impl RowProvider<'_> {
     fn row(&self, number: u16) -> ModuleRow
         ensures { λ r. ⌜ AnswersFor (now (self .entry) .modules) number r ⌝ }
     {
-        let Some(row) = row_at(self.modules.modules, number as usize) else {
+        let Some(row) = row_at(self.modules.modules, number as u32) else {
             return no_module();
         };
         match row.state {
@@ -210,20 +211,5 @@ fn no_module() -> ModuleRow
         site_lists: NO_ROWS,
         line_lists: NO_ROWS,
         files: NO_ROWS,
-    }
-}
-
-fn row_at<T: Copy>(rows: &[T], item: usize) -> Option<T>
-    ensures { λ r. ⌜ r ≡ nth (now (rows .entry)) item ⌝ }
-{
-    rows.get(item).copied()
-}
-
-fn entry_at<T: Copy>(rows: &[T], end: Ending, item: u32) -> Entry<T>
-    ensures { λ r. ⌜ r ≡ entry (now (rows .entry)) end item ⌝ }
-{
-    match row_at(rows, item as usize) {
-        Some(row) => Entry::Item(row),
-        None => Entry::End(end),
     }
 }

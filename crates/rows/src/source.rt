@@ -87,13 +87,15 @@ pub impl<'a> ImageSource for RowSource<'a> as RowSourceImage {
     }
 }
 
-fn row_at<T: Copy>(rows: &[T], item: u32) -> Option<T>
+// Item k of a table, counted from 0.
+pub fn row_at<T: Copy>(rows: &[T], item: u32) -> Option<T>
     ensures { λ r. ⌜ r ≡ nth (now (rows .entry)) item ⌝ }
 {
     rows.get(item as usize).copied()
 }
 
-fn entry_at<T: Copy>(rows: &[T], end: Ending, item: u32) -> Entry<T>
+// The same of a list that has an ending.
+pub fn entry_at<T: Copy>(rows: &[T], end: Ending, item: u32) -> Entry<T>
     ensures { λ r. ⌜ r ≡ entry (now (rows .entry)) end item ⌝ }
 {
     match row_at(rows, item) {
