@@ -1,74 +1,37 @@
 // The tables of a description, row by row.
+use crate::shown::Cell;
+use crate::shown::FileRowShow;
+use crate::shown::Heading;
+use crate::shown::HiddenShow;
+use crate::shown::LineListShow;
+use crate::shown::LineRowShow;
+use crate::shown::ModuleRowShow;
+use crate::shown::PublicSymbolShow;
+use crate::shown::QuestionShow;
+use crate::shown::SectionContributionShow;
+use crate::shown::SectionShow;
+use crate::shown::Show;
+use crate::shown::Shown;
+use crate::shown::SiteListShow;
+use crate::shown::SiteRowShow;
+use crate::shown::SymbolRecordShow;
 use base::image::Ending;
-use base::image::PublicSymbol;
-use base::image::Section;
-use base::image::SectionContribution;
 use description::Description;
-use description::question::Question;
 use description::tables::ImageTables;
-use description::tables::LineTables;
-use description::tables::ModuleTables;
 use description::tables::PartTables;
-use description::tables::SiteTables;
-use modules::tables::FileRow;
-use modules::tables::LineList;
-use modules::tables::ModuleRow;
-use modules::tables::SiteList;
 use printing::push_escaped;
-use provider::symbols::LineRow;
 use provider::symbols::ModuleState;
-use provider::symbols::SiteRow;
-use provider::symbols::Symbol;
-use provider::symbols::SymbolRecord;
 use std::fmt;
 use std::fmt::Write;
-
-// What stands in a row after its first word.
-#[derive(Clone, Copy)]
-enum Cell {
-    Nothing,
-    Word(&'static str),
-    Number(u64),
-}
 
 pub fn write_description(out: &mut String, description: &Description) -> fmt::Result {
     write_text(out, description.text.as_slice())?;
     write_image(out, &description.image)?;
     write_said(out, description)?;
-    write_modules(out, &description.modules)?;
-    write_asked(out, description)
-}
-
-fn write_row(out: &mut String, word: &str, cells: &[Cell]) -> fmt::Result {
-    out.write_str(word)?;
-    for cell in cells {
-        write_cell(out, *cell)?;
-    }
-    out.write_char('\n')
-}
-
-fn write_cell(out: &mut String, cell: Cell) -> fmt::Result {
-    match cell {
-        Cell::Nothing => Ok(()),
-        Cell::Word(word) => write!(out, " {word}"),
-        Cell::Number(n) => write!(out, " {n}"),
-    }
-}
-
-fn number(n: u32) -> Cell {
-    Cell::Number(n as u64)
-}
-
-fn small(n: u16) -> Cell {
-    Cell::Number(n as u64)
-}
-
-// How a list ends, in two cells.
-fn ending(ending: Ending) -> (Cell, Cell) {
-    match ending {
-        Ending::Clean => (Cell::Word("clean"), Cell::Nothing),
-        Ending::Fault(code) => (Cell::Word("fault"), small(code)),
-    }
+    write_rows(out, description.modules.modules.as_slice())?;
+    write_parts(out, &description.modules.parts)?;
+    write_rows(out, description.hidden.as_slice())?;
+    write_rows(out, description.questions.as_slice())
 }
 
 fn write_text(out: &mut String, text: &[u8]) -> fmt::Result {
@@ -80,230 +43,101 @@ fn write_text(out: &mut String, text: &[u8]) -> fmt::Result {
 }
 
 fn write_image(out: &mut String, image: &ImageTables) -> fmt::Result {
-    for section in image.sections.iter() {
-        write_section(out, *section)?;
-    }
-    for symbol in image.symbols.iter() {
-        write_symbol(out, *symbol)?;
-    }
-    for contribution in image.contributions.iter() {
-        write_contribution(out, *contribution)?;
-    }
-    Ok(())
-}
-
-fn write_section(out: &mut String, section: Section) -> fmt::Result {
-    let kind = if section.executable {
-        "executable"
-    } else {
-        "data"
-    };
-    write_row(out, "section", &[number(section.address), number(section.size), Cell::Word(kind)])
-}
-
-fn write_symbol(out: &mut String, symbol: PublicSymbol) -> fmt::Result {
-    write_row(out, "public", &[
-        small(symbol.offset.section),
-        number(symbol.offset.offset),
-        number(symbol.name.start),
-        number(symbol.name.length),
-    ])
-}
-
-fn write_contribution(out: &mut String, contribution: SectionContribution) -> fmt::Result {
-    write_row(out, "contribution", &[
-        small(contribution.offset.section),
-        number(contribution.offset.offset),
-        number(contribution.size),
-        small(contribution.module),
-    ])
+    write_rows(out, image.sections.as_slice())?;
+    write_rows(out, image.symbols.as_slice())?;
+    write_rows(out, image.contributions.as_slice())
 }
 
 // What is said once, or what stands for it.
 fn write_said(out: &mut String, description: &Description) -> fmt::Result {
-    let (publics, publics_code) = ending(description.symbols_end);
-    let (contributions, contributions_code) = ending(description.contributions_end);
-    write_row(out, "publics end", &[publics, publics_code])?;
-    write_row(out, "contributions end", &[contributions, contributions_code])?;
-    write_row(out, "tables", &[
-        Cell::Number(description.start_rows as u64),
-        Cell::Number(description.contribution_rows as u64),
-    ])
+    let starts = description.start_rows;
+    let contributions = description.contribution_rows;
+    write_ending(out, "publics", description.symbols_end)?;
+    write_ending(out, "contributions", description.contributions_end)?;
+    writeln!(out, "tables {starts} {contributions}")
 }
 
-fn write_modules(out: &mut String, tables: &ModuleTables) -> fmt::Result {
-    for module in tables.modules.iter() {
-        write_module(out, *module)?;
-    }
-    write_parts(out, &tables.parts)?;
-    write_sites(out, &tables.parts.sites)?;
-    write_lines(out, &tables.parts.lines)
-}
-
-fn write_module(out: &mut String, module: ModuleRow) -> fmt::Result {
-    let (symbols, symbols_code) = ending(module.symbols_end);
-    let (extras, extras_code) = ending(module.extras);
-    write_row(out, "module", &[Cell::Word(state_name(module.state)), symbols, symbols_code, extras, extras_code])?;
-    write_row(out, "parts", &[
-        number(module.symbols.first),
-        number(module.symbols.count),
-        number(module.site_lists.first),
-        number(module.site_lists.count),
-        number(module.line_lists.first),
-        number(module.line_lists.count),
-        number(module.files.first),
-        number(module.files.count),
-    ])
-}
-
-fn state_name(state: ModuleState) -> &'static str {
-    match state {
-        ModuleState::Absent => "absent",
-        ModuleState::Broken => "broken",
-        ModuleState::Present => "present",
-    }
+fn write_ending(out: &mut String, list: &str, ending: Ending) -> fmt::Result {
+    write!(out, "{list} end")?;
+    write_cell(out, Cell::Ending(ending))?;
+    out.write_str("\n")
 }
 
 fn write_parts(out: &mut String, parts: &PartTables) -> fmt::Result {
-    for record in parts.symbols.iter() {
-        write_record(out, *record)?;
-    }
-    for file in parts.files.iter() {
-        write_file(out, *file)?;
-    }
-    Ok(())
+    write_rows(out, parts.symbols.as_slice())?;
+    write_rows(out, parts.files.as_slice())?;
+    write_rows(out, parts.sites.lists.as_slice())?;
+    write_rows(out, parts.sites.rows.as_slice())?;
+    write_rows(out, parts.lines.lists.as_slice())?;
+    write_rows(out, parts.lines.rows.as_slice())
 }
 
-fn write_record(out: &mut String, record: SymbolRecord) -> fmt::Result {
-    let index = number(record.index);
-    match record.symbol {
-        Symbol::Procedure {
-            offset,
-            length,
-            end,
-            type_number,
-            name,
-        } => write_row(out, "procedure", &[
-            index,
-            small(offset.section),
-            number(offset.offset),
-            number(length),
-            number(end),
-            number(type_number),
-            number(name.start),
-            number(name.length),
-        ]),
-        Symbol::Thunk {
-            offset,
-            length,
-            end,
-            name,
-        } => write_row(out, "thunk", &[
-            index,
-            small(offset.section),
-            number(offset.offset),
-            small(length),
-            number(end),
-            number(name.start),
-            number(name.length),
-        ]),
-        Symbol::SeparatedCode {
-            offset,
-            length,
-            end,
-            parent,
-        } => write_row(out, "separated", &[
-            index,
-            small(offset.section),
-            number(offset.offset),
-            number(length),
-            number(end),
-            small(parent.section),
-            number(parent.offset),
-        ]),
-        Symbol::InlineSite { inlinee, end } => write_row(
-            out,
-            "site",
-            &[index, number(inlinee), number(end)],
-        ),
-        Symbol::Other => write_row(out, "other", &[index]),
-    }
-}
-
-fn write_file(out: &mut String, file: FileRow) -> fmt::Result {
-    write_row(out, "file", &[number(file.number), number(file.name.start), number(file.name.length)])
-}
-
-fn write_sites(out: &mut String, sites: &SiteTables) -> fmt::Result {
-    for list in sites.lists.iter() {
-        write_site_list(out, *list)?;
-    }
-    for row in sites.rows.iter() {
-        write_range(out, *row)?;
+fn write_rows<T: Show>(out: &mut String, rows: &[T]) -> fmt::Result {
+    for row in rows {
+        write_row(out, row.shown())?;
     }
     Ok(())
 }
 
-fn write_site_list(out: &mut String, list: SiteList) -> fmt::Result {
-    let (end, code) = ending(list.ending);
-    write_row(out, "inlined", &[
-        number(list.site),
-        small(list.start.section),
-        number(list.start.offset),
-        number(list.rows.first),
-        number(list.rows.count),
-        end,
-        code,
-    ])
-}
-
-fn write_range(out: &mut String, row: SiteRow) -> fmt::Result {
-    let length = match row.length {
-        Some(length) => number(length),
-        None => Cell::Word("none"),
-    };
-    write_row(out, "range", &[number(row.offset), length, number(row.file), number(row.line)])
-}
-
-fn write_lines(out: &mut String, lines: &LineTables) -> fmt::Result {
-    for list in lines.lists.iter() {
-        write_line_list(out, *list)?;
+fn write_row(out: &mut String, row: Shown) -> fmt::Result {
+    out.write_str(heading_text(row.heading))?;
+    for cell in row.cells.iter() {
+        write_cell(out, *cell)?;
     }
-    for row in lines.rows.iter() {
-        write_line(out, *row)?;
+    out.write_str("\n")
+}
+
+fn heading_text(heading: Heading) -> &'static str {
+    match heading {
+        Heading::Section => "section",
+        Heading::Public => "public",
+        Heading::Contribution => "contribution",
+        Heading::Module => "module",
+        Heading::Procedure => "procedure",
+        Heading::Thunk => "thunk",
+        Heading::Separated => "separated",
+        Heading::Site => "site",
+        Heading::Other => "other",
+        Heading::File => "file",
+        Heading::Inlined => "inlined",
+        Heading::Range => "range",
+        Heading::Lines => "lines",
+        Heading::Line => "line",
+        Heading::Hide => "hide",
+        Heading::Find => "find",
+        Heading::Same => "same",
     }
-    Ok(())
 }
 
-fn write_line_list(out: &mut String, list: LineList) -> fmt::Result {
-    let (end, code) = ending(list.ending);
-    write_row(out, "lines", &[
-        small(list.start.section),
-        number(list.start.offset),
-        number(list.rows.first),
-        number(list.rows.count),
-        end,
-        code,
-    ])
-}
-
-fn write_line(out: &mut String, row: LineRow) -> fmt::Result {
-    write_row(out, "line", &[number(row.offset), number(row.file), number(row.line)])
-}
-
-fn write_asked(out: &mut String, description: &Description) -> fmt::Result {
-    for module in description.hidden.iter() {
-        write_row(out, "hide", &[small(*module)])?;
+fn write_cell(out: &mut String, cell: Cell) -> fmt::Result {
+    match cell {
+        Cell::Number(n) => write_number(out, n),
+        Cell::Place(place) => write_two(out, place.section as u32, place.offset),
+        Cell::Name(name) => write_two(out, name.start, name.length),
+        Cell::Part(part) => write_two(out, part.first, part.count),
+        Cell::Ending(Ending::Clean) => out.write_str(" clean"),
+        Cell::Ending(Ending::Fault(code)) => write!(out, " fault {code}"),
+        Cell::State(state) => out.write_str(state_text(state)),
+        Cell::Executable(true) => out.write_str(" executable"),
+        Cell::Executable(false) => out.write_str(" data"),
+        Cell::Length(Some(length)) => write_number(out, length),
+        Cell::Length(None) => out.write_str(" none"),
+        Cell::Nothing => Ok(()),
     }
-    for question in description.questions.iter() {
-        write_question(out, *question)?;
-    }
-    Ok(())
 }
 
-fn write_question(out: &mut String, question: Question) -> fmt::Result {
-    match question {
-        Question::Find(address) => write_row(out, "find", &[number(address)]),
-        Question::Same(first, second) => write_row(out, "same", &[number(first), number(second)]),
+fn write_number(out: &mut String, n: u32) -> fmt::Result {
+    write!(out, " {n}")
+}
+
+fn write_two(out: &mut String, first: u32, second: u32) -> fmt::Result {
+    write!(out, " {first} {second}")
+}
+
+fn state_text(state: ModuleState) -> &'static str {
+    match state {
+        ModuleState::Absent => " absent",
+        ModuleState::Broken => " broken",
+        ModuleState::Present => " present",
     }
 }

@@ -4,7 +4,9 @@ ghost use mathlib.Core.Path.{_≡_};
 ghost use Prim.Native.Nat.{_<_};
 ghost use lib.ListN.{length};
 mod dump;
+mod shown;
 
+use description::mistake::ReadError;
 use description::mistake::ReadErrorDisplay;
 use description::read_description;
 use dump::write_description;
@@ -43,8 +45,12 @@ fn write_all(heap: Global, out: &mut String, input: &[u8]) -> fmt::Result {
 fn write_one(heap: Global, out: &mut String, input: &[u8]) -> fmt::Result {
     match read_description(heap, input) {
         Ok(description) => write_description(out, &description),
-        Err(error) => writeln!(out, "{error}"),
+        Err(error) => write_error(out, error),
     }
+}
+
+fn write_error(out: &mut String, error: ReadError) -> fmt::Result {
+    writeln!(out, "{error}")
 }
 
 // A line's end after the `%` is part of neither.

@@ -9,7 +9,6 @@ use Rattle.std.specs.shelf.Lists.{All}
 use Rattle.std.specs.declared.option.Option.{Option}
 use Rattle.std.specs.declared.option.Option.the-variants.{Some, None}
 use Rattle.base.specs.declared.image.TextPart.{TextPart}
-use Rattle.modules.specs.declared.tables.ModuleRow.{ModuleRow}
 use Rattle.provider.specs.declared.symbols.ModuleState.{ModuleState}
 use Rattle.provider.specs.declared.symbols.Symbol.{Symbol}
 use Rattle.provider.specs.declared.symbols.Symbol.the-variants.{Procedure, Thunk, SeparatedCode, InlineSite, Other}
@@ -21,11 +20,11 @@ use Rattle.description.specs.declared.row.ModulePart.{ModulePart}
 use Rattle.description.specs.declared.row.ModulePart.the-variants.{Symbol as SymbolPart, SymbolsEnd, Extras, File, Lines, Line, Inlined, Range}
 use Rattle.description.specs.declared.row.Row.{Row}
 use Rattle.description.specs.declared.row.Row.the-variants.{Text, Image, Module, Part, Hide, Ask}
-use Rattle.description.specs.Drafts.{ImageLists, PartLists, ModuleLists, Lists, nothing, image-added, part-added, module-opened, module-grown, list-begun, list-grown, new-lines, new-site, row-added, line-said, said, with-text}
+use Rattle.description.specs.Drafts.{ImageLists, PartLists, ModuleLists, Lists, nothing, image-added, part-pushed, told-with, module-with, module-opened, module-grown, list-begun, list-grown, new-lines, new-site, longer-lines, longer-site, row-added, line-said, said, with-text}
 use Rattle.description.specs.Lists.{short, pushed, appended, split-last}
 use Rattle.description.specs.Names.{SymbolName, ImageName, PartName, RowName, Quoting, Within, Named}
 use Rattle.description.specs.Rows.{symbol-named, image-named, part-named, named}
-use Rattle.description.proofs.Options.{at-some, at-mapped, at-then, if-not, only-if, short-same}
+use Rattle.description.proofs.Options.{at-some, at-mapped, at-then, short-same}
 
 -- what a symbol, an image and a module's part have of names
 symbol-weaker : (P Q : TextPart → Type 0) → ((n : TextPart) → P n → Q n) → (s : Symbol) → SymbolName P s → SymbolName Q s
@@ -102,25 +101,22 @@ image-names P (ContributionsEnd s) a b e n h = at-mapped (λ z. All (λ s. P (s 
 image-names P (StartTable s) a b e n h = at-mapped (λ z. All (λ s. P (s .name)) (z .symbols)) _ _ b e (λ x p. h)
 image-names P (ContributionTable s) a b e n h = at-mapped (λ z. All (λ s. P (s .name)) (z .symbols)) _ _ b e (λ x p. h)
 
-same-names : {P : TextPart → Type 0} {a : PartLists} {b : PartLists} → a .symbols ≡ b .symbols → a .files ≡ b .files → NamedParts P a → NamedParts P b
-same-names {P = P} e f h = record { symbols = subst (All (λ s. SymbolName P (s .symbol))) e (h .symbols); files = subst (All (λ z. P (z .name))) f (h .files) }
-
-part-names : (P : TextPart → Type 0) (p : ModulePart) (m : ModuleRow) (a : PartLists) (q : ModuleRow × PartLists) → part-added p m a ≡ Some q → PartName P p → NamedParts P a → NamedParts P (q .1)
-part-names P (SymbolPart r) m a q e n h = at-mapped (λ z. NamedParts P (z .1)) _ (pushed (a .symbols) r) q e (λ x p. record { symbols = pushed-all (λ s. SymbolName P (s .symbol)) (a .symbols) r x p (h .symbols) n; files = h .files })
-part-names P (SymbolsEnd r) m a q e n h = if-not (λ z. NamedParts P (z .1)) (a .told .«symbols_end») _ q e (λ d. at-some (λ z. NamedParts P (z .1)) _ q d (same-names refl refl h))
-part-names P (Extras r) m a q e n h = if-not (λ z. NamedParts P (z .1)) (a .told .extras) _ q e (λ d. at-some (λ z. NamedParts P (z .1)) _ q d (same-names refl refl h))
-part-names P (File r) m a q e n h = at-mapped (λ z. NamedParts P (z .1)) _ (pushed (a .files) r) q e (λ x p. record { symbols = h .symbols; files = pushed-all (λ f. P (f .name)) (a .files) r x p (h .files) n })
-part-names P (Lines o d) m a q e n h = at-mapped (λ z. NamedParts P (z .1)) _ (list-begun (new-lines o d) (a .lines)) q e (λ x p. same-names refl refl h)
-part-names P (Line r) m a q e n h = only-if (λ z. NamedParts P (z .1)) (a .told .lines) _ q e (λ d. at-mapped (λ z. NamedParts P (z .1)) _ (list-grown _ r (a .lines)) q d (λ x p. same-names refl refl h))
-part-names P (Inlined s o d) m a q e n h = at-mapped (λ z. NamedParts P (z .1)) _ (list-begun (new-site s o d) (a .sites)) q e (λ x p. same-names refl refl h)
-part-names P (Range r) m a q e n h = only-if (λ z. NamedParts P (z .1)) (a .told .sites) _ q e (λ d. at-mapped (λ z. NamedParts P (z .1)) _ (list-grown _ r (a .sites)) q d (λ x p. same-names refl refl h))
+part-names : (P : TextPart → Type 0) (p : ModulePart) (a b : PartLists) → part-pushed p a ≡ Some b → PartName P p → NamedParts P a → NamedParts P b
+part-names P (SymbolPart r) a b e n h = at-mapped (NamedParts P) _ (pushed (a .symbols) r) b e (λ x p. record { symbols = pushed-all (λ s. SymbolName P (s .symbol)) (a .symbols) r x p (h .symbols) n; files = h .files })
+part-names P (SymbolsEnd r) a b e n h = at-some (NamedParts P) a b e h
+part-names P (Extras r) a b e n h = at-some (NamedParts P) a b e h
+part-names P (File r) a b e n h = at-mapped (NamedParts P) _ (pushed (a .files) r) b e (λ x p. record { symbols = h .symbols; files = pushed-all (λ f. P (f .name)) (a .files) r x p (h .files) n })
+part-names P (Lines o d) a b e n h = at-mapped (NamedParts P) _ (list-begun (new-lines o d) (a .lines)) b e (λ x p. record { symbols = h .symbols; files = h .files })
+part-names P (Line r) a b e n h = at-mapped (NamedParts P) _ (list-grown longer-lines r (a .lines)) b e (λ x p. record { symbols = h .symbols; files = h .files })
+part-names P (Inlined s o d) a b e n h = at-mapped (NamedParts P) _ (list-begun (new-site s o d) (a .sites)) b e (λ x p. record { symbols = h .symbols; files = h .files })
+part-names P (Range r) a b e n h = at-mapped (NamedParts P) _ (list-grown longer-site r (a .sites)) b e (λ x p. record { symbols = h .symbols; files = h .files })
 
 opened-names : (P : TextPart → Type 0) (s : ModuleState) (a b : ModuleLists) → module-opened s a ≡ Some b → NamedParts P (a .parts) → NamedParts P (b .parts)
-opened-names P s a b e h = at-mapped (λ z. NamedParts P (z .parts)) _ (pushed (a .modules) _) b e (λ x p. same-names refl refl h)
+opened-names P s a b e h = at-mapped (λ z. NamedParts P (z .parts)) _ (pushed (a .modules) _) b e (λ x p. h)
 
 grown-names : (P : TextPart → Type 0) (p : ModulePart) (a b : ModuleLists) → module-grown p a ≡ Some b → PartName P p → NamedParts P (a .parts) → NamedParts P (b .parts)
 grown-names P p a b e n h =
-    at-then (λ z. NamedParts P (z .parts)) (split-last (a .modules)) _ b e (λ q _ f. at-then (λ z. NamedParts P (z .parts)) (part-added p (q .1) (a .parts)) _ b f (λ s g k. at-mapped (λ z. NamedParts P (z .parts)) _ (pushed (q .0) (s .0)) b k (λ ms d. part-names P p (q .1) (a .parts) s g n h)))
+    at-then (λ z. NamedParts P (z .parts)) (split-last (a .modules)) _ b e (λ q _ f. at-then (λ z. NamedParts P (z .parts)) (told-with p (a .told)) _ b f (λ t _ g. at-then (λ z. NamedParts P (z .parts)) (pushed (q .0) (module-with p (q .1))) _ b g (λ ms _ k. at-mapped (λ z. NamedParts P (z .parts)) _ (part-pushed p (a .parts)) b k (λ ps m. part-names P p (a .parts) ps m n h))))
 
 row-names : (r : Row) (a b : Lists) → row-added r a ≡ Some b → RowName (Within (a .text)) r → Named a → Named b
 row-names Text a b e n h = at-some Named a b e h

@@ -27,14 +27,6 @@ pub at-then : {X Y : Type 0} (P : Y → Type 0) (o : Option X) (f : X → Option
 at-then P None f y e h = never y e
 at-then P (Some x) f y e h = h x refl e
 
-pub if-not : {Y : Type 0} (P : Y → Type 0) (b : Bool) (o : Option Y) (y : Y) → cond b None o ≡ Some y → (o ≡ Some y → P y) → P y
-if-not P true o y e h = never y e
-if-not P false o y e h = h e
-
-pub only-if : {Y : Type 0} (P : Y → Type 0) (b : Bool) (o : Option Y) (y : Y) → cond b o None ≡ Some y → (o ≡ Some y → P y) → P y
-only-if P true o y e h = h e
-only-if P false o y e h = never y e
-
 kept-or-none : {X : Type 0} (b : Bool) (xs ys : List X) → cond b (Some xs) None ≡ Some ys → (b ≡ true) × (xs ≡ ys)
 kept-or-none true xs ys e = (refl, cc)
 kept-or-none false xs ys e = never ys e

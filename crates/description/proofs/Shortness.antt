@@ -8,7 +8,6 @@ use Rattle.std.specs.shelf.Lists.{All}
 use Rattle.std.specs.declared.option.Option.{Option}
 use Rattle.std.specs.declared.option.Option.the-variants.{Some, None}
 use Rattle.modules.specs.declared.tables.LineList.{LineList}
-use Rattle.modules.specs.declared.tables.ModuleRow.{ModuleRow}
 use Rattle.modules.specs.declared.tables.RowRange.{RowRange}
 use Rattle.modules.specs.declared.tables.SiteList.{SiteList}
 use Rattle.provider.specs.declared.symbols.LineRow.{LineRow}
@@ -16,7 +15,6 @@ use Rattle.provider.specs.declared.symbols.ModuleState.{ModuleState}
 use Rattle.provider.specs.declared.symbols.SiteRow.{SiteRow}
 use Rattle.base.specs.declared.image.TextPart.{TextPart}
 use Rattle.words.specs.Quotes.{unquoted}
-use Rattle.description.specs.declared.said.Told.{Told}
 use Rattle.description.specs.declared.row.ImageRow.{ImageRow}
 use Rattle.description.specs.declared.row.ImageRow.the-variants.{Section, Public, Contribution, PublicsEnd, ContributionsEnd, StartTable, ContributionTable}
 use Rattle.description.specs.declared.row.Line.{Line as RowLine}
@@ -25,10 +23,10 @@ use Rattle.description.specs.declared.row.ModulePart.the-variants.{Symbol, Sym
 use Rattle.description.specs.declared.row.Row.{Row}
 use Rattle.description.specs.declared.row.Row.the-variants.{Text, Image, Module, Part, Hide, Ask}
 use Rattle.description.specs.Described.{ShortImage, ShortParts, Short}
-use Rattle.description.specs.Drafts.{ImageLists, Parted, PartLists, ModuleLists, Lists, nothing, image-added, part-added, module-opened, module-grown, list-begun, list-grown, new-lines, new-site, row-added, line-said, said, with-text, with-told}
+use Rattle.description.specs.Drafts.{ImageLists, Parted, PartLists, ModuleLists, Lists, nothing, image-added, part-pushed, told-with, module-with, module-opened, module-grown, list-begun, list-grown, new-lines, new-site, longer-lines, longer-site, row-added, line-said, said, with-text}
 use Rattle.description.specs.Lists.{then, short, pushed, appended, split-last, part-at}
 use Rattle.description.specs.Rows.{named}
-use Rattle.description.proofs.Options.{never, at-some, at-mapped, at-then, if-not, only-if, short-short}
+use Rattle.description.proofs.Options.{at-some, at-mapped, at-then, short-short}
 
 record ShortParted {L R : Type 0} (a : Parted L R) : Type 0 where
   lists : length (a .lists) < 2 ^ 32
@@ -50,36 +48,32 @@ image-short (ContributionsEnd s) a b e h = at-mapped ShortImage _ _ b e (λ x p.
 image-short (StartTable s) a b e h = at-mapped ShortImage _ _ b e (λ x p. record { sections = h .sections; symbols = h .symbols; contributions = h .contributions })
 image-short (ContributionTable s) a b e h = at-mapped ShortImage _ _ b e (λ x p. record { sections = h .sections; symbols = h .symbols; contributions = h .contributions })
 
-same-short : {a : PartLists} {t : Told} → ShortParts a → ShortParts (with-told a t)
-same-short h = record { symbols = h .symbols; files = h .files; site-lists = h .site-lists; site-rows = h .site-rows; line-lists = h .line-lists; line-rows = h .line-rows }
-
-with-lines : {a : PartLists} {l : Parted LineList LineRow} {t : Told} → ShortParts a → ShortParted l → ShortParts (record { symbols = a .symbols; files = a .files; sites = a .sites; lines = l; told = t })
+with-lines : {a : PartLists} {l : Parted LineList LineRow} → ShortParts a → ShortParted l → ShortParts (record { symbols = a .symbols; files = a .files; sites = a .sites; lines = l })
 with-lines h k = record { symbols = h .symbols; files = h .files; site-lists = h .site-lists; site-rows = h .site-rows; line-lists = k .lists; line-rows = k .rows }
 
-with-sites : {a : PartLists} {l : Parted SiteList SiteRow} {t : Told} → ShortParts a → ShortParted l → ShortParts (record { symbols = a .symbols; files = a .files; sites = l; lines = a .lines; told = t })
+with-sites : {a : PartLists} {l : Parted SiteList SiteRow} → ShortParts a → ShortParted l → ShortParts (record { symbols = a .symbols; files = a .files; sites = l; lines = a .lines })
 with-sites h k = record { symbols = h .symbols; files = h .files; site-lists = k .lists; site-rows = k .rows; line-lists = h .line-lists; line-rows = h .line-rows }
 
--- what a part changes leaves the modules' lists short
-pub part-short : (p : ModulePart) (m : ModuleRow) (a : PartLists) (q : ModuleRow × PartLists) → part-added p m a ≡ Some q → ShortParts a → ShortParts (q .1)
-part-short (Symbol r) m a q e h = at-mapped (λ z. ShortParts (z .1)) _ (pushed (a .symbols) r) q e (λ x p. record { symbols = short-short _ x p; files = h .files; site-lists = h .site-lists; site-rows = h .site-rows; line-lists = h .line-lists; line-rows = h .line-rows })
-part-short (SymbolsEnd r) m a q e h = if-not (λ z. ShortParts (z .1)) (a .told .«symbols_end») _ q e (λ d. at-some (λ z. ShortParts (z .1)) _ q d (same-short h))
-part-short (Extras r) m a q e h = if-not (λ z. ShortParts (z .1)) (a .told .extras) _ q e (λ d. at-some (λ z. ShortParts (z .1)) _ q d (same-short h))
-part-short (File r) m a q e h = at-mapped (λ z. ShortParts (z .1)) _ (pushed (a .files) r) q e (λ x p. record { symbols = h .symbols; files = short-short _ x p; site-lists = h .site-lists; site-rows = h .site-rows; line-lists = h .line-lists; line-rows = h .line-rows })
-part-short (Lines o d) m a q e h = at-mapped (λ z. ShortParts (z .1)) _ (list-begun (new-lines o d) (a .lines)) q e (λ x p. with-lines h (begun-short (new-lines o d) (a .lines) x p (h .line-rows)))
-part-short (Line r) m a q e h = only-if (λ z. ShortParts (z .1)) (a .told .lines) _ q e (λ d. at-mapped (λ z. ShortParts (z .1)) _ (list-grown _ r (a .lines)) q d (λ x p. with-lines h (grown-short _ r (a .lines) x p)))
-part-short (Inlined s o d) m a q e h = at-mapped (λ z. ShortParts (z .1)) _ (list-begun (new-site s o d) (a .sites)) q e (λ x p. with-sites h (begun-short (new-site s o d) (a .sites) x p (h .site-rows)))
-part-short (Range r) m a q e h = only-if (λ z. ShortParts (z .1)) (a .told .sites) _ q e (λ d. at-mapped (λ z. ShortParts (z .1)) _ (list-grown _ r (a .sites)) q d (λ x p. with-sites h (grown-short _ r (a .sites) x p)))
+part-short : (p : ModulePart) (a b : PartLists) → part-pushed p a ≡ Some b → ShortParts a → ShortParts b
+part-short (Symbol r) a b e h = at-mapped ShortParts _ (pushed (a .symbols) r) b e (λ x p. record { symbols = short-short _ x p; files = h .files; site-lists = h .site-lists; site-rows = h .site-rows; line-lists = h .line-lists; line-rows = h .line-rows })
+part-short (SymbolsEnd r) a b e h = at-some ShortParts a b e h
+part-short (Extras r) a b e h = at-some ShortParts a b e h
+part-short (File r) a b e h = at-mapped ShortParts _ (pushed (a .files) r) b e (λ x p. record { symbols = h .symbols; files = short-short _ x p; site-lists = h .site-lists; site-rows = h .site-rows; line-lists = h .line-lists; line-rows = h .line-rows })
+part-short (Lines o d) a b e h = at-mapped ShortParts _ (list-begun (new-lines o d) (a .lines)) b e (λ x p. with-lines h (begun-short (new-lines o d) (a .lines) x p (h .line-rows)))
+part-short (Line r) a b e h = at-mapped ShortParts _ (list-grown longer-lines r (a .lines)) b e (λ x p. with-lines h (grown-short longer-lines r (a .lines) x p))
+part-short (Inlined s o d) a b e h = at-mapped ShortParts _ (list-begun (new-site s o d) (a .sites)) b e (λ x p. with-sites h (begun-short (new-site s o d) (a .sites) x p (h .site-rows)))
+part-short (Range r) a b e h = at-mapped ShortParts _ (list-grown longer-site r (a .sites)) b e (λ x p. with-sites h (grown-short longer-site r (a .sites) x p))
 
 record ShortModules (a : ModuleLists) : Type 0 where
   modules : length (a .modules) < 2 ^ 32
   parts : ShortParts (a .parts)
 
 opened-short : (s : ModuleState) (a b : ModuleLists) → module-opened s a ≡ Some b → ShortParts (a .parts) → ShortModules b
-opened-short s a b e h = at-mapped ShortModules _ (pushed (a .modules) _) b e (λ x p. record { modules = short-short _ x p; parts = same-short h })
+opened-short s a b e h = at-mapped ShortModules _ (pushed (a .modules) _) b e (λ x p. record { modules = short-short _ x p; parts = h })
 
 part-grown : (p : ModulePart) (a b : ModuleLists) → module-grown p a ≡ Some b → ShortParts (a .parts) → ShortModules b
 part-grown p a b e h =
-    at-then ShortModules (split-last (a .modules)) _ b e (λ q _ f. at-then ShortModules (part-added p (q .1) (a .parts)) _ b f (λ s g k. at-mapped ShortModules _ (pushed (q .0) (s .0)) b k (λ ms d. record { modules = short-short _ ms d; parts = part-short p (q .1) (a .parts) s g h })))
+    at-then ShortModules (split-last (a .modules)) _ b e (λ q _ f. at-then ShortModules (told-with p (a .told)) _ b f (λ t _ g. at-then ShortModules (pushed (q .0) (module-with p (q .1))) _ b g (λ ms d k. at-mapped ShortModules _ (part-pushed p (a .parts)) b k (λ ps m. record { modules = short-short _ ms d; parts = part-short p (a .parts) ps m h }))))
 
 with-modules : {a : Lists} {m : ModuleLists} → Short a → ShortModules m → Short (record { text = a .text; image = a .image; modules = m; hidden = a .hidden; questions = a .questions })
 with-modules h k = record { text = h .text; image = h .image; modules = k .modules; parts = k .parts; hidden = h .hidden; questions = h .questions }

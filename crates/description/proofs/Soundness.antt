@@ -14,7 +14,7 @@ pub sound : (d : Draft) → Says nothing (lists d) → Sound (described d)
 sound d s = record {
   rows = s .rows;
   once = d .image .said;
-  told = d .modules .parts .told;
+  told = d .modules .told;
   whole = s .whole;
   symbols-end = refl;
   contributions-end = refl;

@@ -31,7 +31,7 @@ described d = record {
   «contributions_end» = valueOr (d .image .said .«contributions_end») Clean;
   «start_rows» = valueOr (d .image .said .«start_rows») (starts-at-most (d .image .tables));
   «contribution_rows» = valueOr (d .image .said .«contribution_rows») (vec-len (d .image .tables .contributions));
-  modules = record { modules = d .modules .modules; parts = d .modules .parts .tables };
+  modules = record { modules = d .modules .modules; parts = d .modules .parts };
   hidden = d .hidden;
   questions = d .questions;
 }
@@ -41,7 +41,7 @@ abbrev pub lists-of : Description → Said → Told → Lists
 lists-of d s t = record {
   text = vec-items (d .text);
   image = image-lists (record { tables = d .image; said = s });
-  modules = record { modules = vec-items (d .modules .modules); parts = part-lists (record { tables = d .modules .parts; told = t }) };
+  modules = record { modules = vec-items (d .modules .modules); told = t; parts = part-lists (d .modules .parts) };
   hidden = vec-items (d .hidden);
   questions = vec-items (d .questions);
 }

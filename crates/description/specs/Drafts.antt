@@ -27,7 +27,6 @@ use Rattle.provider.specs.declared.symbols.SymbolRecord.{SymbolRecord}
 use Rattle.description.specs.declared.draft.Draft.{Draft}
 use Rattle.description.specs.declared.draft.ImageDraft.{ImageDraft}
 use Rattle.description.specs.declared.draft.ModuleDraft.{ModuleDraft}
-use Rattle.description.specs.declared.draft.PartDraft.{PartDraft}
 use Rattle.description.specs.declared.question.Question.{Question}
 use Rattle.description.specs.declared.row.ImageRow.{ImageRow}
 use Rattle.description.specs.declared.row.ImageRow.the-variants.{Section as SectionRow, Public, Contribution, PublicsEnd, ContributionsEnd, StartTable, ContributionTable}
@@ -127,43 +126,55 @@ site-lists t = record { lists = vec-items (t .lists); rows = vec-items (t .rows)
 abbrev pub line-lists : LineTables → Parted LineList LineRow
 line-lists t = record { lists = vec-items (t .lists); rows = vec-items (t .rows) }
 
--- what the modules have parts of, and what was said of the newest module
+-- what the modules have parts of
 pub record PartLists : Type 0 where
   pub symbols : List SymbolRecord
   pub files : List FileRow
   pub sites : Parted SiteList SiteRow
   pub lines : Parted LineList LineRow
-  pub told : Told
 
+abbrev pub parts-nothing : PartLists
+parts-nothing = record { symbols = []; files = []; sites = parted-nothing; lines = parted-nothing }
+
+abbrev pub part-lists : PartTables → PartLists
+part-lists t = record { symbols = vec-items (t .symbols); files = vec-items (t .files); sites = site-lists (t .sites); lines = line-lists (t .lines) }
+
+abbrev with-symbols : PartLists → List SymbolRecord → PartLists
+with-symbols a x = record { symbols = x; files = a .files; sites = a .sites; lines = a .lines }
+
+abbrev with-files : PartLists → List FileRow → PartLists
+with-files a x = record { symbols = a .symbols; files = x; sites = a .sites; lines = a .lines }
+
+abbrev with-sites : PartLists → Parted SiteList SiteRow → PartLists
+with-sites a x = record { symbols = a .symbols; files = a .files; sites = x; lines = a .lines }
+
+abbrev with-lines : PartLists → Parted LineList LineRow → PartLists
+with-lines a x = record { symbols = a .symbols; files = a .files; sites = a .sites; lines = x }
+
+-- the lists, with a part more of the newest module
+abbrev pub part-pushed : ModulePart → PartLists → Option PartLists
+part-pushed (Symbol r) a = mapped (with-symbols a) (pushed (a .symbols) r)
+part-pushed (SymbolsEnd e) a = Some a
+part-pushed (Extras e) a = Some a
+part-pushed (File f) a = mapped (with-files a) (pushed (a .files) f)
+part-pushed (Lines o e) a = mapped (with-lines a) (list-begun (new-lines o e) (a .lines))
+part-pushed (Line l) a = mapped (with-lines a) (list-grown longer-lines l (a .lines))
+part-pushed (Inlined s o e) a = mapped (with-sites a) (list-begun (new-site s o e) (a .sites))
+part-pushed (Range r) a = mapped (with-sites a) (list-grown longer-site r (a .sites))
+
+-- what was said of the newest module, and now the part too, unless that cannot come
 abbrev pub told-nothing : Told
 told-nothing = record { «symbols_end» = false; extras = false; sites = false; lines = false }
 
-abbrev pub parts-nothing : PartLists
-parts-nothing = record { symbols = []; files = []; sites = parted-nothing; lines = parted-nothing; told = told-nothing }
-
-abbrev pub part-lists : PartDraft → PartLists
-part-lists d = record {
-  symbols = vec-items (d .tables .symbols);
-  files = vec-items (d .tables .files);
-  sites = site-lists (d .tables .sites);
-  lines = line-lists (d .tables .lines);
-  told = d .told;
-}
-
-abbrev with-symbols : PartLists → List SymbolRecord → PartLists
-with-symbols a x = record { symbols = x; files = a .files; sites = a .sites; lines = a .lines; told = a .told }
-
-abbrev with-files : PartLists → List FileRow → PartLists
-with-files a x = record { symbols = a .symbols; files = x; sites = a .sites; lines = a .lines; told = a .told }
-
-abbrev with-sites : PartLists → Parted SiteList SiteRow → PartLists
-with-sites a x = record { symbols = a .symbols; files = a .files; sites = x; lines = a .lines; told = a .told }
-
-abbrev with-lines : PartLists → Parted LineList LineRow → PartLists
-with-lines a x = record { symbols = a .symbols; files = a .files; sites = a .sites; lines = x; told = a .told }
-
-abbrev pub with-told : PartLists → Told → PartLists
-with-told a t = record { symbols = a .symbols; files = a .files; sites = a .sites; lines = a .lines; told = t }
+abbrev pub told-with : ModulePart → Told → Option Told
+told-with (Symbol r) t = Some t
+told-with (SymbolsEnd e) t = cond (t .«symbols_end») None (Some (record { «symbols_end» = true; extras = t .extras; sites = t .sites; lines = t .lines }))
+told-with (Extras e) t = cond (t .extras) None (Some (record { «symbols_end» = t .«symbols_end»; extras = true; sites = t .sites; lines = t .lines }))
+told-with (File f) t = Some t
+told-with (Lines o e) t = Some (record { «symbols_end» = t .«symbols_end»; extras = t .extras; sites = t .sites; lines = true })
+told-with (Line l) t = cond (t .lines) (Some t) None
+told-with (Inlined s o e) t = Some (record { «symbols_end» = t .«symbols_end»; extras = t .extras; sites = true; lines = t .lines })
+told-with (Range r) t = cond (t .sites) (Some t) None
 
 -- a module of no rows yet
 abbrev pub new-module : ModuleState → PartLists → ModuleRow
@@ -177,53 +188,32 @@ new-module s a = record {
   files = part-at (a .files);
 }
 
-abbrev more-symbols : ModuleRow → ModuleRow
-more-symbols m = record { state = m .state; symbols = grown (m .symbols); «symbols_end» = m .«symbols_end»; extras = m .extras; «site_lists» = m .«site_lists»; «line_lists» = m .«line_lists»; files = m .files }
-
-abbrev more-files : ModuleRow → ModuleRow
-more-files m = record { state = m .state; symbols = m .symbols; «symbols_end» = m .«symbols_end»; extras = m .extras; «site_lists» = m .«site_lists»; «line_lists» = m .«line_lists»; files = grown (m .files) }
-
-abbrev more-sites : ModuleRow → ModuleRow
-more-sites m = record { state = m .state; symbols = m .symbols; «symbols_end» = m .«symbols_end»; extras = m .extras; «site_lists» = grown (m .«site_lists»); «line_lists» = m .«line_lists»; files = m .files }
-
-abbrev more-lines : ModuleRow → ModuleRow
-more-lines m = record { state = m .state; symbols = m .symbols; «symbols_end» = m .«symbols_end»; extras = m .extras; «site_lists» = m .«site_lists»; «line_lists» = grown (m .«line_lists»); files = m .files }
-
-abbrev symbols-ended : Ending → ModuleRow → ModuleRow
-symbols-ended e m = record { state = m .state; symbols = m .symbols; «symbols_end» = e; extras = m .extras; «site_lists» = m .«site_lists»; «line_lists» = m .«line_lists»; files = m .files }
-
-abbrev extras-set : Ending → ModuleRow → ModuleRow
-extras-set e m = record { state = m .state; symbols = m .symbols; «symbols_end» = m .«symbols_end»; extras = e; «site_lists» = m .«site_lists»; «line_lists» = m .«line_lists»; files = m .files }
-
--- the newest module and the lists, with a part more
-abbrev pub part-added : ModulePart → ModuleRow → PartLists → Option (ModuleRow × PartLists)
-part-added (Symbol r) m a = mapped (λ x. (more-symbols m, with-symbols a x)) (pushed (a .symbols) r)
-part-added (SymbolsEnd e) m a =
-    cond (a .told .«symbols_end») None (Some (symbols-ended e m, with-told a (record { «symbols_end» = true; extras = a .told .extras; sites = a .told .sites; lines = a .told .lines })))
-part-added (Extras e) m a =
-    cond (a .told .extras) None (Some (extras-set e m, with-told a (record { «symbols_end» = a .told .«symbols_end»; extras = true; sites = a .told .sites; lines = a .told .lines })))
-part-added (File f) m a = mapped (λ x. (more-files m, with-files a x)) (pushed (a .files) f)
-part-added (Lines o e) m a =
-    mapped (λ x. (more-lines m, with-told (with-lines a x) (record { «symbols_end» = a .told .«symbols_end»; extras = a .told .extras; sites = a .told .sites; lines = true }))) (list-begun (new-lines o e) (a .lines))
-part-added (Line l) m a = cond (a .told .lines) (mapped (λ x. (m, with-lines a x)) (list-grown longer-lines l (a .lines))) None
-part-added (Inlined s o e) m a =
-    mapped (λ x. (more-sites m, with-told (with-sites a x) (record { «symbols_end» = a .told .«symbols_end»; extras = a .told .extras; sites = true; lines = a .told .lines }))) (list-begun (new-site s o e) (a .sites))
-part-added (Range r) m a = cond (a .told .sites) (mapped (λ x. (m, with-sites a x)) (list-grown longer-site r (a .sites))) None
+-- the newest module, with a part more
+abbrev pub module-with : ModulePart → ModuleRow → ModuleRow
+module-with (Symbol r) m = record { state = m .state; symbols = grown (m .symbols); «symbols_end» = m .«symbols_end»; extras = m .extras; «site_lists» = m .«site_lists»; «line_lists» = m .«line_lists»; files = m .files }
+module-with (SymbolsEnd e) m = record { state = m .state; symbols = m .symbols; «symbols_end» = e; extras = m .extras; «site_lists» = m .«site_lists»; «line_lists» = m .«line_lists»; files = m .files }
+module-with (Extras e) m = record { state = m .state; symbols = m .symbols; «symbols_end» = m .«symbols_end»; extras = e; «site_lists» = m .«site_lists»; «line_lists» = m .«line_lists»; files = m .files }
+module-with (File f) m = record { state = m .state; symbols = m .symbols; «symbols_end» = m .«symbols_end»; extras = m .extras; «site_lists» = m .«site_lists»; «line_lists» = m .«line_lists»; files = grown (m .files) }
+module-with (Lines o e) m = record { state = m .state; symbols = m .symbols; «symbols_end» = m .«symbols_end»; extras = m .extras; «site_lists» = m .«site_lists»; «line_lists» = grown (m .«line_lists»); files = m .files }
+module-with (Line l) m = m
+module-with (Inlined s o e) m = record { state = m .state; symbols = m .symbols; «symbols_end» = m .«symbols_end»; extras = m .extras; «site_lists» = grown (m .«site_lists»); «line_lists» = m .«line_lists»; files = m .files }
+module-with (Range r) m = m
 
 -- what is said of modules so far
 pub record ModuleLists : Type 0 where
   pub modules : List ModuleRow
+  pub told : Told
   pub parts : PartLists
 
 abbrev pub module-lists : ModuleDraft → ModuleLists
-module-lists d = record { modules = vec-items (d .modules); parts = part-lists (d .parts) }
+module-lists d = record { modules = vec-items (d .modules); told = d .told; parts = part-lists (d .parts) }
 
 abbrev pub module-opened : ModuleState → ModuleLists → Option ModuleLists
-module-opened s a = mapped (λ ms. record { modules = ms; parts = with-told (a .parts) told-nothing }) (pushed (a .modules) (new-module s (a .parts)))
+module-opened s a = mapped (λ ms. record { modules = ms; told = told-nothing; parts = a .parts }) (pushed (a .modules) (new-module s (a .parts)))
 
 abbrev pub module-grown : ModulePart → ModuleLists → Option ModuleLists
 module-grown p a =
-    then (split-last (a .modules)) (λ q. then (part-added p (q .1) (a .parts)) (λ s. mapped (λ ms. record { modules = ms; parts = s .1 }) (pushed (q .0) (s .0))))
+    then (split-last (a .modules)) (λ q. then (told-with p (a .told)) (λ t. then (pushed (q .0) (module-with p (q .1))) (λ ms. mapped (λ ps. record { modules = ms; told = t; parts = ps }) (part-pushed p (a .parts)))))
 
 -- what is said so far
 pub record Lists : Type 0 where
@@ -234,7 +224,7 @@ pub record Lists : Type 0 where
   pub questions : List Question
 
 abbrev pub nothing : Lists
-nothing = record { text = []; image = image-nothing; modules = record { modules = []; parts = parts-nothing }; hidden = []; questions = [] }
+nothing = record { text = []; image = image-nothing; modules = record { modules = []; told = told-nothing; parts = parts-nothing }; hidden = []; questions = [] }
 
 abbrev pub lists : Draft → Lists
 lists d = record { text = vec-items (d .text); image = image-lists (d .image); modules = module-lists (d .modules); hidden = vec-items (d .hidden); questions = vec-items (d .questions) }

@@ -1,28 +1,31 @@
--- What the words of a row say, and the names of rows. Assumes nothing.
+-- What is asked of rows, and their names. Assumes nothing.
 use mathlib.Core.Bool.{cond}
 use Prim.Native.Nat.{ℕ, _^_, _≤_}
 use lib.Dec.{leb}
-use Rattle.std.specs.declared.result.Result.{Result}
-use Rattle.std.specs.declared.result.Result.the-variants.{Ok, Err}
+use Rattle.std.specs.declared.option.Option.{Option}
+use Rattle.std.specs.declared.option.Option.the-variants.{Some, None}
 use Rattle.base.specs.declared.image.TextPart.{TextPart}
 use Rattle.provider.specs.declared.symbols.Symbol.{Symbol}
 use Rattle.provider.specs.declared.symbols.Symbol.the-variants.{Procedure, Thunk, SeparatedCode, InlineSite, Other}
-use Rattle.words.specs.declared.number.NotNumber.{NotNumber}
-use Rattle.words.specs.declared.number.NotNumber.the-variants.{NotDigits, TooLarge}
-use Rattle.description.specs.declared.mistake.Mistake.{Mistake}
-use Rattle.description.specs.declared.mistake.Mistake.the-variants.{NotANumber}
 use Rattle.description.specs.declared.row.ImageRow.{ImageRow}
 use Rattle.description.specs.declared.row.ImageRow.the-variants.{Section, Public, Contribution, PublicsEnd, ContributionsEnd, StartTable, ContributionTable}
 use Rattle.description.specs.declared.row.ModulePart.{ModulePart}
 use Rattle.description.specs.declared.row.ModulePart.the-variants.{Symbol as SymbolPart, SymbolsEnd, Extras, File, Lines, Line, Inlined, Range}
 use Rattle.description.specs.declared.row.Row.{Row}
 use Rattle.description.specs.declared.row.Row.the-variants.{Text, Image, Module, Part, Hide, Ask}
+use Rattle.description.specs.declared.token.Token.{Token}
+use Rattle.description.specs.declared.token.Token.the-variants.{Number, LargeNumber, Offset, Part as TextPlace, Keyword, Quoted, Open, End}
 
--- a number of at most `most`; a larger one is the mistake m
-abbrev pub bounded : Result ℕ NotNumber → ℕ → Mistake → Result ℕ Mistake
-bounded (Ok n) most m = cond (leb n most) (Ok n) (Err m)
-bounded (Err NotDigits) most m = Err NotANumber
-bounded (Err TooLarge) most m = Err m
+-- the number that a token is, if it is one of at most `most`
+abbrev pub bounded : Token → ℕ → Option ℕ
+bounded (Number n) most = cond (leb n most) (Some n) None
+bounded LargeNumber most = None
+bounded (Offset r) most = None
+bounded (TextPlace r) most = None
+bounded (Keyword k) most = None
+bounded Quoted most = None
+bounded Open most = None
+bounded End most = None
 
 -- a table is not said to have too many rows
 abbrev pub FittingImage : ImageRow → Type 0

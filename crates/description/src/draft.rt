@@ -3,7 +3,6 @@ use crate::question::Question;
 use crate::said::Said;
 use crate::said::Told;
 use crate::tables::ImageTables;
-use crate::tables::ModuleTables;
 use crate::tables::PartTables;
 use modules::tables::ModuleRow;
 
@@ -14,15 +13,10 @@ pub struct ImageDraft {
 }
 
 #[derive(Drop)]
-pub struct PartDraft {
-    pub tables: PartTables,
-    pub told: Told,
-}
-
-#[derive(Drop)]
 pub struct ModuleDraft {
     pub modules: Vec<ModuleRow>,
-    pub parts: PartDraft,
+    pub told: Told,
+    pub parts: PartTables,
 }
 
 #[derive(Drop)]

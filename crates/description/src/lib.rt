@@ -18,12 +18,12 @@ mod read;
 mod row;
 mod said;
 pub mod tables;
+mod token;
 
 use base::image::Ending;
 use draft::Draft;
 use draft::ImageDraft;
 use draft::ModuleDraft;
-use draft::PartDraft;
 use mistake::Fault;
 use mistake::FaultFromMistake;
 use mistake::ReadError;
@@ -91,24 +91,22 @@ fn new_draft(heap: Global) -> Draft
         },
         modules: ModuleDraft {
             modules: Vec::new(heap),
-            parts: PartDraft {
-                tables: PartTables {
-                    symbols: Vec::new(heap),
-                    files: Vec::new(heap),
-                    sites: SiteTables {
-                        lists: Vec::new(heap),
-                        rows: Vec::new(heap),
-                    },
-                    lines: LineTables {
-                        lists: Vec::new(heap),
-                        rows: Vec::new(heap),
-                    },
+            told: Told {
+                symbols_end: false,
+                extras: false,
+                sites: false,
+                lines: false,
+            },
+            parts: PartTables {
+                symbols: Vec::new(heap),
+                files: Vec::new(heap),
+                sites: SiteTables {
+                    lists: Vec::new(heap),
+                    rows: Vec::new(heap),
                 },
-                told: Told {
-                    symbols_end: false,
-                    extras: false,
-                    sites: false,
-                    lines: false,
+                lines: LineTables {
+                    lists: Vec::new(heap),
+                    rows: Vec::new(heap),
                 },
             },
         },
@@ -154,7 +152,7 @@ fn finish(draft: Draft) -> Description
         contribution_rows: rows_or(said.contribution_rows, contributions),
         modules: ModuleTables {
             modules: draft.modules.modules,
-            parts: draft.modules.parts.tables,
+            parts: draft.modules.parts,
         },
         hidden: draft.hidden,
         questions: draft.questions,

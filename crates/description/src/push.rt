@@ -62,7 +62,7 @@ pub fn set_once<T: Drop>(slot: &mut Option<T>, value: T, twice: Mistake) -> Resu
 }
 
 // A part of a table, with the row that comes next.
-pub fn one_more(part: RowRange) -> Result<RowRange, Fault>
+pub fn one_more(part: RowRange) -> Result<RowRange, Mistake>
     ensures { λ r. ⌜ made r (λ p. p ≡ grown part) ⌝ }
 {
     match part.count.checked_add(1) {
@@ -70,7 +70,7 @@ pub fn one_more(part: RowRange) -> Result<RowRange, Fault>
             first: part.first,
             count,
         }),
-        None => Err(Fault::Wrong(Mistake::TooManyRows)),
+        None => Err(Mistake::TooManyRows),
     }
 }
 

@@ -3,7 +3,6 @@ ghost use Rattle.std.specs.Slices.{found};
 ghost use Rattle.std.specs.Vec.{made};
 ghost use Rattle.description.specs.Rows.{Fitting, FittingImage};
 use crate::fields::Fields;
-use crate::fields::keyword_in;
 use crate::keyword::Keyword;
 use crate::mistake::Mistake;
 use crate::question::Question;
@@ -11,6 +10,8 @@ use crate::row::ImageRow;
 use crate::row::Line;
 use crate::row::ModulePart;
 use crate::row::Row;
+use crate::token::Token;
+use crate::token::tokens_of;
 use base::image::PublicSymbol;
 use base::image::Section;
 use base::image::SectionContribution;
@@ -25,20 +26,34 @@ use provider::symbols::SymbolRecord;
 pub fn read_row<'a>(line: &'a [u8]) -> Result<Option<Line<'a>>, Mistake>
     ensures { λ r. ⌜ made r (λ o. found o (λ l. Fitting (l .row))) ⌝ }
 {
-    let mut fields = Fields::new(line);
-    let row = match fields.next_word() {
-        Some(first) => Some(fields.row(keyword_in(first))),
-        None => None,
-    };
-    fields.end();
-    match (fields.mistake, row) {
-        (Some(mistake), _) => Err(mistake),
-        (None, Some(row)) => Ok(Some(Line { row, quoted: fields.quoted })),
-        (None, None) => Ok(None),
+    let mut tokens = [Token::End; 8];
+    let quoted = tokens_of(line, &mut tokens);
+    match row_of(tokens)? {
+        Some(row) => Ok(Some(Line { row, quoted })),
+        None => Ok(None),
     }
 }
 
-impl Fields<'_> {
+fn row_of(tokens: [Token; 8]) -> Result<Option<Row>, Mistake>
+    ensures { λ r. ⌜ made r (λ o. found o Fitting) ⌝ }
+{
+    let mut fields = Fields {
+        tokens,
+        used: 0,
+        mistake: None,
+    };
+    let Some(keyword) = fields.first() else {
+        return Ok(None);
+    };
+    let row = fields.row(keyword);
+    fields.end();
+    match fields.mistake {
+        Some(mistake) => Err(mistake),
+        None => Ok(Some(row)),
+    }
+}
+
+impl Fields {
     fn row(&mut self, keyword: Keyword) -> Row
         ensures { λ r. ⌜ Fitting r ⌝ }
     {
@@ -78,7 +93,7 @@ impl Fields<'_> {
     }
 
     fn is_executable(&mut self) -> bool {
-        match self.keyword() {
+        match self.keyword(Mistake::NotAKind) {
             Keyword::Executable => true,
             Keyword::Data => false,
             _ => {
@@ -106,7 +121,7 @@ impl Fields<'_> {
     fn table(&mut self) -> ImageRow
         ensures { λ r. ⌜ FittingImage r ⌝ }
     {
-        match self.keyword() {
+        match self.keyword(Mistake::NotATable) {
             Keyword::Starts => ImageRow::StartTable(self.table_rows()),
             Keyword::Contributions => ImageRow::ContributionTable(self.table_rows()),
             _ => {
@@ -117,7 +132,7 @@ impl Fields<'_> {
     }
 
     fn module_state(&mut self) -> ModuleState {
-        match self.keyword() {
+        match self.keyword(Mistake::NotAState) {
             Keyword::Present => ModuleState::Present,
             Keyword::Absent => ModuleState::Absent,
             Keyword::Broken => ModuleState::Broken,
