@@ -174,7 +174,15 @@ pub impl Show for SymbolRecord as SymbolRecordShow {
             },
             Symbol::InlineSite { inlinee, end } => Shown {
                 heading: Heading::Site,
-                cells: [index, Cell::Number(inlinee), Cell::Number(end), NONE, NONE, NONE, NONE],
+                cells: [
+                    index,
+                    Cell::Number(inlinee),
+                    Cell::Number(end),
+                    NONE,
+                    NONE,
+                    NONE,
+                    NONE,
+                ],
             },
             Symbol::Other => Shown {
                 heading: Heading::Other,
@@ -250,7 +258,15 @@ pub impl Show for u16 as HiddenShow {
     fn shown(&self) -> Shown {
         Shown {
             heading: Heading::Hide,
-            cells: [Cell::Number(*self as u32), NONE, NONE, NONE, NONE, NONE, NONE],
+            cells: [
+                Cell::Number(*self as u32),
+                NONE,
+                NONE,
+                NONE,
+                NONE,
+                NONE,
+                NONE,
+            ],
         }
     }
 }
@@ -264,7 +280,15 @@ pub impl Show for Question as QuestionShow {
             },
             Question::Same(first, second) => Shown {
                 heading: Heading::Same,
-                cells: [Cell::Number(first), Cell::Number(second), NONE, NONE, NONE, NONE, NONE],
+                cells: [
+                    Cell::Number(first),
+                    Cell::Number(second),
+                    NONE,
+                    NONE,
+                    NONE,
+                    NONE,
+                    NONE,
+                ],
             },
         }
     }

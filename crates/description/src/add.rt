@@ -77,11 +77,30 @@ impl ImageDraft {
         match row {
             ImageRow::Section(section) => push_row(&mut self.tables.sections, section),
             ImageRow::Public(symbol) => push_row(&mut self.tables.symbols, symbol),
-            ImageRow::Contribution(contribution) => push_row(&mut self.tables.contributions, contribution),
-            ImageRow::PublicsEnd(end) => set_once(&mut self.said.symbols_end, end, Mistake::PublicsEndTwice),
-            ImageRow::ContributionsEnd(end) => set_once(&mut self.said.contributions_end, end, Mistake::ContributionsEndTwice),
-            ImageRow::StartTable(rows) => set_once(&mut self.said.start_rows, rows, Mistake::TableTwice),
-            ImageRow::ContributionTable(rows) => set_once(&mut self.said.contribution_rows, rows, Mistake::TableTwice),
+            ImageRow::Contribution(contribution) => push_row(
+                &mut self.tables.contributions,
+                contribution,
+            ),
+            ImageRow::PublicsEnd(end) => set_once(
+                &mut self.said.symbols_end,
+                end,
+                Mistake::PublicsEndTwice,
+            ),
+            ImageRow::ContributionsEnd(end) => set_once(
+                &mut self.said.contributions_end,
+                end,
+                Mistake::ContributionsEndTwice,
+            ),
+            ImageRow::StartTable(rows) => set_once(
+                &mut self.said.start_rows,
+                rows,
+                Mistake::TableTwice,
+            ),
+            ImageRow::ContributionTable(rows) => set_once(
+                &mut self.said.contribution_rows,
+                rows,
+                Mistake::TableTwice,
+            ),
         }
     }
 }
@@ -209,11 +228,14 @@ impl LineTables {
         ensures { λ r. ⌜ made r (λ _. list-begun (new-lines start ending) (line-lists (now (self .entry))) ≡ Some (line-lists (now (self .exit)))) ⌝ }
     {
         let rows = part_at_end(&self.rows);
-        push_row(&mut self.lists, LineList {
-            start,
-            rows,
-            ending,
-        })
+        push_row(
+            &mut self.lists,
+            LineList {
+                start,
+                rows,
+                ending,
+            },
+        )
     }
 
     // A row of the newest list.
@@ -233,12 +255,15 @@ impl SiteTables {
         ensures { λ r. ⌜ made r (λ _. list-begun (new-site site start ending) (site-lists (now (self .entry))) ≡ Some (site-lists (now (self .exit)))) ⌝ }
     {
         let rows = part_at_end(&self.rows);
-        push_row(&mut self.lists, SiteList {
-            site,
-            start,
-            rows,
-            ending,
-        })
+        push_row(
+            &mut self.lists,
+            SiteList {
+                site,
+                start,
+                rows,
+                ending,
+            },
+        )
     }
 
     fn push(&mut self, row: SiteRow) -> Result<(), Fault>

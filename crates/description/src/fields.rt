@@ -49,12 +49,14 @@ impl Fields {
 
     // What stands where another kind of word belongs.
     fn mismatch(&mut self, token: Token, mistake: Mistake) {
-        self.wrong(match token {
-            Token::End => Mistake::MissingWord,
-            Token::Open => Mistake::QuoteLeftOpen,
-            Token::Quoted => Mistake::QuotedWord,
-            _ => mistake,
-        })
+        self.wrong(
+            match token {
+                Token::End => Mistake::MissingWord,
+                Token::Open => Mistake::QuoteLeftOpen,
+                Token::Quoted => Mistake::QuotedWord,
+                _ => mistake,
+            },
+        )
     }
 
     pub fn end(&mut self) {

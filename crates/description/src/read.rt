@@ -66,7 +66,12 @@ impl Fields {
             Keyword::Hide => Row::Hide(self.small(Mistake::ModuleTooLarge)),
             Keyword::Find => Row::Ask(Question::Find(self.number())),
             Keyword::Same => Row::Ask(Question::Same(self.number(), self.number())),
-            Keyword::Section | Keyword::Public | Keyword::Contribution | Keyword::Publics | Keyword::Contributions | Keyword::Table => Row::Image(self.image_row(keyword)),
+            Keyword::Section
+            | Keyword::Public
+            | Keyword::Contribution
+            | Keyword::Publics
+            | Keyword::Contributions
+            | Keyword::Table => Row::Image(self.image_row(keyword)),
             _ => Row::Part(self.part_row(keyword)),
         }
     }
@@ -185,7 +190,11 @@ impl Fields {
 
     fn record(&mut self, keyword: Keyword) -> SymbolRecord {
         match keyword {
-            Keyword::Procedure | Keyword::Thunk | Keyword::Separated | Keyword::Site | Keyword::OtherRecord => SymbolRecord {
+            Keyword::Procedure
+            | Keyword::Thunk
+            | Keyword::Separated
+            | Keyword::Site
+            | Keyword::OtherRecord => SymbolRecord {
                 index: self.number(),
                 symbol: self.symbol(keyword),
             },

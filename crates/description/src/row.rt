@@ -33,9 +33,16 @@ pub enum ModulePart {
     SymbolsEnd(Ending),
     Extras(Ending),
     File(FileRow),
-    Lines { start: SectionOffset, ending: Ending },
+    Lines {
+        start: SectionOffset,
+        ending: Ending,
+    },
     Line(LineRow),
-    Inlined { site: u32, start: SectionOffset, ending: Ending },
+    Inlined {
+        site: u32,
+        start: SectionOffset,
+        ending: Ending,
+    },
     Range(SiteRow),
 }
 
@@ -62,18 +69,15 @@ impl Row {
         ensures { λ r. ⌜ r ≡ named name self ⌝ }
     {
         match self {
-            Row::Image(ImageRow::Public(PublicSymbol { offset, .. })) => Row::Image(
-                ImageRow::Public(PublicSymbol { offset, name }),
-            ),
-            Row::Part(ModulePart::Symbol(SymbolRecord { index, symbol })) => Row::Part(
-                ModulePart::Symbol(SymbolRecord {
+            Row::Image(ImageRow::Public(PublicSymbol { offset, .. })) =>
+                Row::Image(ImageRow::Public(PublicSymbol { offset, name })),
+            Row::Part(ModulePart::Symbol(SymbolRecord { index, symbol })) =>
+                Row::Part(ModulePart::Symbol(SymbolRecord {
                     index,
                     symbol: symbol_named(symbol, name),
-                }),
-            ),
-            Row::Part(ModulePart::File(FileRow { number, .. })) => Row::Part(
-                ModulePart::File(FileRow { number, name }),
-            ),
+                })),
+            Row::Part(ModulePart::File(FileRow { number, .. })) =>
+                Row::Part(ModulePart::File(FileRow { number, name })),
             row => row,
         }
     }
@@ -83,14 +87,30 @@ fn symbol_named(symbol: Symbol, name: TextPart) -> Symbol
     ensures { λ r. ⌜ r ≡ symbol-named name symbol ⌝ }
 {
     match symbol {
-        Symbol::Procedure { offset, length, end, type_number, .. } => Symbol::Procedure {
+        Symbol::Procedure {
+            offset,
+            length,
+            end,
+            type_number,
+            ..
+        } => Symbol::Procedure {
             offset,
             length,
             end,
             type_number,
             name,
         },
-        Symbol::Thunk { offset, length, end, .. } => Symbol::Thunk { offset, length, end, name },
+        Symbol::Thunk {
+            offset,
+            length,
+            end,
+            ..
+        } => Symbol::Thunk {
+            offset,
+            length,
+            end,
+            name,
+        },
         symbol => symbol,
     }
 }

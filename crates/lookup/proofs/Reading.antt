@@ -202,13 +202,13 @@ unrefused-few m k had p after =
     elim (ltb top (p .offset .offset + p .length)) as (λ b. unless-refused (had ++ p ∷ []) (or-else (cond b (Some (ProcedureOutside m k)) None) (cond (ltb most-procedures (length (in-order (had ++ p ∷ [])))) (Some (TooManyProcedures m k)) None)) ≡ Ok after → length (in-order after) ≤ most-procedures) [
       | true ↦ λ h. absurd (ok-err after (ProcedureOutside m k) h)
       | false ↦ λ h.
-      ⊎-elim
-      (λ b. absurd (ok-err after (TooManyProcedures m k) (sym (ap (unless-refused (had ++ p ∷ [])) (cond-true (ltb most-procedures (length (in-order (had ++ p ∷ [])))) (Some (TooManyProcedures m k)) None b)) ∙ h)))
-      (λ b.
-      subst (λ ps. length (in-order ps) ≤ most-procedures)
-      (ok-is (had ++ p ∷ []) after (sym (ap (unless-refused (had ++ p ∷ [])) (cond-false (ltb most-procedures (length (in-order (had ++ p ∷ [])))) (Some (TooManyProcedures m k)) None b)) ∙ h))
-      (ltb-false most-procedures (length (in-order (had ++ p ∷ []))) b))
-      (cases-bool (ltb most-procedures (length (in-order (had ++ p ∷ [])))))
+          ⊎-elim
+          (λ b. absurd (ok-err after (TooManyProcedures m k) (sym (ap (unless-refused (had ++ p ∷ [])) (cond-true (ltb most-procedures (length (in-order (had ++ p ∷ [])))) (Some (TooManyProcedures m k)) None b)) ∙ h)))
+          (λ b.
+          subst (λ ps. length (in-order ps) ≤ most-procedures)
+          (ok-is (had ++ p ∷ []) after (sym (ap (unless-refused (had ++ p ∷ [])) (cond-false (ltb most-procedures (length (in-order (had ++ p ∷ [])))) (Some (TooManyProcedures m k)) None b)) ∙ h))
+          (ltb-false most-procedures (length (in-order (had ++ p ∷ []))) b))
+          (cases-bool (ltb most-procedures (length (in-order (had ++ p ∷ [])))))
     ]
 
 with-kept-few : (m k : ℕ) (had : List Procedure) (o : Option Procedure) (after : List Procedure) → length (in-order had) ≤ most-procedures → with-kept m k had o ≡ Ok after → length (in-order after) ≤ most-procedures

@@ -57,7 +57,6 @@ drop-least xs k n e =
     (λ l. drop-all k xs (omega arith) ∙ sym (drop-all n xs l))
     (cases-lt n (length xs))
 
-
 -- one answer more
 pub map-more : {X Y : Type 0} (f : X → Y) (xs : List X) (old rows : List Y) (k : ℕ) (d : X) (y : Y) → k < length xs → k < length old → y ≡ f (getD xs k d) → rows ≡ map f (take k xs) ++ drop k old → set rows k y ≡ map f (take (k + 1) xs) ++ drop (k + 1) old
 map-more f xs old rows k d y l m e h =

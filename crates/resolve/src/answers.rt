@@ -46,7 +46,13 @@ pub fn write_image(
         starts: starts.as_mut_slice(),
         contributions: contributions.as_mut_slice(),
     };
-    write_opened(page, description, options, &mut tables, answers.as_mut_slice());
+    write_opened(
+        page,
+        description,
+        options,
+        &mut tables,
+        answers.as_mut_slice(),
+    );
     Ok(())
 }
 
@@ -94,7 +100,14 @@ fn write_built<P: ModuleProvider + Drop>(
             if !options.only_answers {
                 write_context(page, description.text.as_slice(), &context);
             }
-            write_answers(page, provider, &context, description.questions.as_slice(), options, answers);
+            write_answers(
+                page,
+                provider,
+                &context,
+                description.questions.as_slice(),
+                options,
+                answers,
+            );
         }
         Err(refusal) => write_refusal(page, &refusal),
     }
@@ -143,14 +156,41 @@ fn write_answers<P: ModuleProvider + Drop>(
     answers: &mut [Answer],
 ) {
     let mut resolver = answer_all(provider, context, options.addresses.as_slice(), answers);
+    write_asked(page, &mut resolver, context, questions);
+    write_all_found(page, &resolver, options.addresses.as_slice(), answers);
+    write_pairs(page, &mut resolver, context, options.pairs.as_slice());
+}
+
+fn write_asked<P: ModuleProvider>(
+    page: &mut Page,
+    resolver: &mut Resolver<P>,
+    context: &Context<'_>,
+    questions: &[Question],
+) {
     for question in questions {
-        write_answer(page, &mut resolver, context, *question);
+        write_answer(page, resolver, context, *question);
     }
-    for (address, answer) in options.addresses.iter().zip(answers.iter()) {
-        write_found(page, &resolver, *address, *answer);
+}
+
+fn write_all_found<P: ModuleProvider>(
+    page: &mut Page,
+    resolver: &Resolver<P>,
+    addresses: &[u32],
+    answers: &[Answer],
+) {
+    for (address, answer) in addresses.iter().zip(answers.iter()) {
+        write_found(page, resolver, *address, *answer);
     }
-    for pair in options.pairs.iter() {
-        write_answer(page, &mut resolver, context, Question::Same(pair.0, pair.1));
+}
+
+fn write_pairs<P: ModuleProvider>(
+    page: &mut Page,
+    resolver: &mut Resolver<P>,
+    context: &Context<'_>,
+    pairs: &[(u32, u32)],
+) {
+    for pair in pairs {
+        write_answer(page, resolver, context, Question::Same(pair.0, pair.1));
     }
 }
 
@@ -178,7 +218,7 @@ fn write_found<P: ModuleProvider>(
     address: u32,
     answer: Answer,
 ) {
-    page.hex(address);
+    page.hex("", address);
     match answer {
         Ok(Some(function)) => write_function(page, function, resolver.name(function.name)),
         Ok(None) => page.push(" none\n"),
@@ -191,47 +231,38 @@ fn write_found<P: ModuleProvider>(
 
 // An end that lies above the greatest address is none.
 fn write_function(page: &mut Page, function: Function, name: Name<'_>) {
-    page.push(" function ");
-    page.hex(function.start_rva);
-    page.push(" ");
+    page.hex(" function ", function.start_rva);
     match function.end_rva {
-        Some(end) => page.hex(end),
-        None => page.push("-"),
+        Some(end) => page.hex(" ", end),
+        None => page.push(" -"),
     }
     write_name(page, name);
-    page.end();
+    page.push("\n");
 }
 
 fn write_name(page: &mut Page, name: Name<'_>) {
     match name {
         Name::None => page.push(" unnamed"),
         Name::Raw(bytes) => {
-            page.push(" raw ");
-            page.quoted(bytes);
+            page.escaped(" raw \"", bytes);
+            page.push("\"");
         }
         Name::Typed(bytes, module, number) => {
-            page.push(" typed ");
-            page.quoted(bytes);
-            page.push(" module ");
-            page.number(module as u64);
-            page.push(" type ");
-            page.number(number as u64);
+            page.escaped(" typed \"", bytes);
+            page.number("\" module ", module as u64);
+            page.number(" type ", number as u64);
         }
         Name::Id(module, inlinee) => {
-            page.push(" inlinee ");
-            page.number(inlinee as u64);
-            page.push(" module ");
-            page.number(module as u64);
+            page.number(" inlinee ", inlinee as u64);
+            page.number(" module ", module as u64);
         }
     }
 }
 
 // Where one of the two has no function, nothing is known.
 fn write_same(page: &mut Page, first: u32, second: u32, answer: Result<Option<bool>, Refusal>) {
-    page.push("same ");
-    page.hex(first);
-    page.push(" ");
-    page.hex(second);
+    page.hex("same ", first);
+    page.hex(" ", second);
     match answer {
         Ok(Some(true)) => page.push(" yes\n"),
         Ok(Some(false)) => page.push(" no\n"),

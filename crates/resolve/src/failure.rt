@@ -44,14 +44,16 @@ pub impl fmt::Display for Failure as FailureDisplay {
 
 pub impl fmt::Display for Flaw as FlawDisplay {
     fn fmt<W: fmt::Write>(&self, f: &mut fmt::Formatter<W>) -> fmt::Result {
-        f.write_str(match self {
-            Flaw::NotANumber => "a number is decimal, or hexadecimal after 0x",
-            Flaw::NumberTooLarge => "a number is at most 4294967295",
-            Flaw::ExtraWord => "one address stands on a line",
-            Flaw::UnknownOption => "there is no such option",
-            Flaw::NothingFollows => "more has to follow",
-            Flaw::ReadTwice => "it can be read once only",
-        })
+        f.write_str(
+            match self {
+                Flaw::NotANumber => "a number is decimal, or hexadecimal after 0x",
+                Flaw::NumberTooLarge => "a number is at most 4294967295",
+                Flaw::ExtraWord => "one address stands on a line",
+                Flaw::UnknownOption => "there is no such option",
+                Flaw::NothingFollows => "more has to follow",
+                Flaw::ReadTwice => "it can be read once only",
+            },
+        )
     }
 }
 

@@ -10,6 +10,7 @@ mod print;
 mod refused;
 
 use answers::write_image;
+use description::mistake::ReadError;
 use description::mistake::ReadErrorDisplay;
 use description::read_description;
 use failure::Failure;
@@ -71,9 +72,8 @@ fn write_path(
     path: &str,
 ) -> Result<(), Failure> {
     let bytes = input.read(rt, path)?;
-    page.push("image ");
-    page.escaped(path.as_bytes());
-    page.end();
+    page.escaped("image ", path.as_bytes());
+    page.push("\n");
     write_description(rt.alloc(), page, options, path, bytes.as_slice())
 }
 
@@ -86,6 +86,10 @@ fn write_description(
 ) -> Result<(), Failure> {
     match read_description(heap, bytes) {
         Ok(description) => write_image(heap, page, &description, options),
-        Err(error) => Err(wrong(heap, shown(path), error)),
+        Err(error) => Err(wrong_description(heap, path, error)),
     }
+}
+
+fn wrong_description(heap: Global, path: &str, error: ReadError) -> Failure {
+    wrong(heap, shown(path), error)
 }

@@ -29,6 +29,35 @@ enum Next {
     Second(u32),
 }
 
+// What a word is that belongs to no option before it.
+#[derive(Clone, Copy)]
+enum Choice {
+    Wants(Next),
+    Answers,
+    Unknown,
+    Path,
+}
+
+static CHOICES: [(&'static str, Choice); 4] = [
+    ("--address", Choice::Wants(Next::Address)),
+    ("--addresses", Choice::Wants(Next::File)),
+    ("--same", Choice::Wants(Next::First)),
+    ("--answers", Choice::Answers),
+];
+
+fn choice_of(word: &str) -> Choice {
+    for (name, choice) in CHOICES.iter() {
+        if word == *name {
+            return *choice;
+        }
+    }
+    if word.starts_with("--") {
+        Choice::Unknown
+    } else {
+        Choice::Path
+    }
+}
+
 pub fn read_options(rt: &LibcRuntime, input: &mut Input) -> Result<Options, Failure> {
     let heap = rt.alloc();
     let mut options = Options {
@@ -78,25 +107,18 @@ impl Options {
     }
 
     fn take_word(&mut self, rt: &LibcRuntime, word: String) -> Result<Next, Failure> {
-        let text = word.as_str();
-        if text == "--address" {
-            return Ok(Next::Address);
+        match choice_of(word.as_str()) {
+            Choice::Wants(next) => Ok(next),
+            Choice::Answers => {
+                self.only_answers = true;
+                Ok(Next::Word)
+            }
+            Choice::Unknown => Err(wrong_word(rt.alloc(), word.as_str(), Flaw::UnknownOption)),
+            Choice::Path => {
+                self.paths.push(word)?;
+                Ok(Next::Word)
+            }
         }
-        if text == "--addresses" {
-            return Ok(Next::File);
-        }
-        if text == "--same" {
-            return Ok(Next::First);
-        }
-        if text == "--answers" {
-            self.only_answers = true;
-            return Ok(Next::Word);
-        }
-        if text.starts_with("--") {
-            return Err(wrong_word(rt.alloc(), text, Flaw::UnknownOption));
-        }
-        self.paths.push(word)?;
-        Ok(Next::Word)
     }
 
     fn take_file(
@@ -110,12 +132,7 @@ impl Options {
         Ok(Next::Word)
     }
 
-    fn take_address(
-        &mut self,
-        rt: &LibcRuntime,
-        next: Next,
-        word: &str,
-    ) -> Result<Next, Failure> {
+    fn take_address(&mut self, rt: &LibcRuntime, next: Next, word: &str) -> Result<Next, Failure> {
         match address(word.as_bytes()) {
             Ok(address) => self.ask(next, address),
             Err(flaw) => Err(wrong_word(rt.alloc(), word, flaw)),

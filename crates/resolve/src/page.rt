@@ -23,31 +23,23 @@ impl Page {
         }
     }
 
-    pub fn end(&mut self) {
-        self.push("\n");
-    }
-
-    pub fn number(&mut self, n: u64) {
-        if write!(self.text, "{n}").is_err() {
+    // Each of these writes a text, and then what it leads to.
+    pub fn number(&mut self, text: &str, n: u64) {
+        if write!(self.text, "{text}{n}").is_err() {
             self.full = true;
         }
     }
 
-    pub fn hex(&mut self, n: u32) {
-        if write!(self.text, "{n:#x}").is_err() {
+    pub fn hex(&mut self, text: &str, n: u32) {
+        if write!(self.text, "{text}{n:#x}").is_err() {
             self.full = true;
         }
     }
 
-    pub fn escaped(&mut self, bytes: &[u8]) {
+    pub fn escaped(&mut self, text: &str, bytes: &[u8]) {
+        self.push(text);
         if push_escaped(&mut self.text, bytes).is_err() {
             self.full = true;
         }
-    }
-
-    pub fn quoted(&mut self, bytes: &[u8]) {
-        self.push("\"");
-        self.escaped(bytes);
-        self.push("\"");
     }
 }

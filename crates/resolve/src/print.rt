@@ -18,48 +18,42 @@ pub fn write_context(page: &mut Page, text: &[u8], context: &Context) {
     for start in &context.starts[0..context.start_count] {
         write_start(page, text, *start);
     }
-    page.push("functions ");
-    page.number(context.function_count() as u64);
-    page.end();
+    page.number("functions ", context.function_count() as u64);
+    page.push("\n");
 }
 
 fn write_section(page: &mut Page, number: u64, section: Section) {
-    page.push("section ");
-    page.number(number);
-    page.push(" ");
-    page.hex(section.address);
-    page.push(" ");
-    page.hex(section.size);
-    page.push(if section.executable { " executable\n" } else { " data\n" });
+    page.number("section ", number);
+    page.hex(" ", section.address);
+    page.hex(" ", section.size);
+    page.push(if section.executable {
+        " executable\n"
+    } else {
+        " data\n"
+    });
 }
 
 fn write_contribution(page: &mut Page, contribution: Contribution) {
-    page.push("contribution ");
-    page.number(contribution.section as u64);
-    page.push(":");
-    page.hex(contribution.start);
-    page.push(" ");
-    page.hex(contribution.end);
-    page.push(" ");
-    page.number(contribution.module as u64);
-    page.end();
+    page.number("contribution ", contribution.section as u64);
+    page.hex(":", contribution.start);
+    page.hex(" ", contribution.end);
+    page.number(" ", contribution.module as u64);
+    page.push("\n");
 }
 
 fn write_start(page: &mut Page, text: &[u8], start: KnownStart) {
-    page.push("start ");
-    page.number(start.offset.section as u64);
-    page.push(":");
-    page.hex(start.offset.offset);
+    page.number("start ", start.offset.section as u64);
+    page.hex(":", start.offset.offset);
     if let Some(name) = start.name {
         write_name(page, text, name);
     }
-    page.end();
+    page.push("\n");
 }
 
 // A name lies within the text of the image that a context was built from.
 fn write_name(page: &mut Page, text: &[u8], name: TextPart) {
     if let Some(bytes) = part_of(text, name) {
-        page.push(" ");
-        page.quoted(bytes);
+        page.escaped(" \"", bytes);
+        page.push("\"");
     }
 }

@@ -7,31 +7,21 @@ use base::refusal::Step;
 
 // What is refused, at which step, and then each thing that the refusal names.
 pub fn write_refusal(page: &mut Page, refusal: &Refusal) {
-    page.push("refused ");
-    page.number(refusal.number() as u64);
+    page.number("refused ", refusal.number() as u64);
     page.push(": ");
     page.push(what(*refusal));
     page.push(", at ");
     page.push(step_name(refusal.step()));
-    write_named(page, ", item ", refusal.item());
-    write_module(page, refusal.module());
+    if let Some(item) = refusal.item() {
+        page.number(", item ", item as u64);
+    }
+    if let Some(module) = refusal.module() {
+        page.number(", module ", module as u64);
+    }
     write_rest(page, refusal);
-    page.end();
+    page.push("\n");
 }
 
-fn write_named(page: &mut Page, name: &str, number: Option<u32>) {
-    if let Some(number) = number {
-        page.push(name);
-        page.number(number as u64);
-    }
-}
-
-fn write_module(page: &mut Page, module: Option<u16>) {
-    if let Some(module) = module {
-        page.push(", module ");
-        page.number(module as u64);
-    }
-}
 fn what(refusal: Refusal) -> &'static str {
     match refusal {
         Refusal::StartTableFull { .. } => "the table of starts is full",
@@ -75,68 +65,49 @@ fn step_name(step: Step) -> &'static str {
 // What a refusal names besides its item and its one module.
 fn write_rest(page: &mut Page, refusal: &Refusal) {
     match refusal {
-        Refusal::FrameTableShort { needed } => {
-            page.push(", ");
-            page.number(*needed as u64);
-            page.push(" rows needed");
+        Refusal::FrameTableShort { needed } => page.number(", rows needed ", *needed as u64),
+        Refusal::BadRow { table, row } => {
+            page.push(table_name(*table));
+            page.number(", row ", *row);
         }
-        Refusal::BadRow { table, row } => write_row(page, *table, *row),
-        Refusal::Unordered { section, .. } => write_section(page, *section),
+        Refusal::Unordered { section, .. } => page.number(", section ", *section as u64),
         Refusal::Overlapping {
             section,
             first,
             second,
         } => {
-            page.push(", modules ");
-            page.number(*first as u64);
-            page.push(" and ");
-            page.number(*second as u64);
-            write_section(page, *section);
+            page.number(", modules ", *first as u64);
+            page.number(" and ", *second as u64);
+            page.number(", section ", *section as u64);
         }
-        Refusal::Fault { list, code } => write_fault(page, *list, *code),
+        Refusal::Fault { list, code } => {
+            page.number(", code ", *code as u64);
+            page.push(list_name(*list));
+        }
         _ => {}
     }
 }
 
-fn write_section(page: &mut Page, section: u16) {
-    page.push(", section ");
-    page.number(section as u64);
-}
-
-fn write_row(page: &mut Page, table: RowTable, row: u64) {
-    page.push(", table ");
-    page.push(table_name(table));
-    page.push(", row ");
-    page.number(row);
-}
-
-fn write_fault(page: &mut Page, list: FaultyList, code: u16) {
-    page.push(", code ");
-    page.number(code as u64);
-    page.push(", list ");
-    page.push(list_name(list));
-}
-
 fn table_name(table: RowTable) -> &'static str {
     match table {
-        RowTable::Sections => "sections",
-        RowTable::PublicSymbolRows => "public symbols",
-        RowTable::ContributionRows => "contributions",
-        RowTable::Modules => "modules",
-        RowTable::Records => "records",
-        RowTable::SiteLists => "site lists",
-        RowTable::SiteRows => "sites",
-        RowTable::LineLists => "line lists",
-        RowTable::LineRowRows => "line rows",
-        RowTable::Files => "files",
+        RowTable::Sections => ", table sections",
+        RowTable::PublicSymbolRows => ", table public symbols",
+        RowTable::ContributionRows => ", table contributions",
+        RowTable::Modules => ", table modules",
+        RowTable::Records => ", table records",
+        RowTable::SiteLists => ", table site lists",
+        RowTable::SiteRows => ", table sites",
+        RowTable::LineLists => ", table line lists",
+        RowTable::LineRowRows => ", table line rows",
+        RowTable::Files => ", table files",
     }
 }
 
 fn list_name(list: FaultyList) -> &'static str {
     match list {
-        FaultyList::PublicSymbols => "public symbols",
-        FaultyList::Contributions => "contributions",
-        FaultyList::Extras { .. } => "extras",
-        FaultyList::LineRows { .. } => "line rows",
+        FaultyList::PublicSymbols => ", list public symbols",
+        FaultyList::Contributions => ", list contributions",
+        FaultyList::Extras { .. } => ", list extras",
+        FaultyList::LineRows { .. } => ", list line rows",
     }
 }

@@ -48,7 +48,8 @@ impl<P: ModuleProvider> Resolver<P> {
         let Some(location) = locate(context, address) else {
             return Ok(None);
         };
-        self.shelf.want(&self.provider, location.contribution.module)?;
+        self.shelf
+            .want(&self.provider, location.contribution.module)?;
         Ok(function_at(
             self.provider.text(),
             context,

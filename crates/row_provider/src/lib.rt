@@ -37,7 +37,6 @@ use rows::source::RowSource;
 use rows::source::RowSourceImage;
 use rows::source::entry_at;
 use rows::source::row_at;
-
 use rows::tables::ImageRows;
 use table::find;
 

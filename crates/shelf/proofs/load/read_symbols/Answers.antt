@@ -42,16 +42,16 @@ loop-found-again g c =
       | in-Some·in-Continue-add-procedure w ↦ (
         omega arith,
         subst₂ (λ t u. Progress (c .args .module) (x .symbols) (c .loop-found .item + 1) (t .rows .now) (t .count) (u .rows .now) (u .count)) (sym (w .procedures-is)) (sym (w .parents-is))
-        (progress-kept (c .args .module) (c .loop-found .item) (x .symbols) (c .loop-found .procedures .rows .now) (c .loop-found .procedures .count) (c .loop-found .parents .rows .now) (c .loop-found .parents .count) (c .in-Item .found) at-k (c .kept-procedure .result) (c .kept-procedure .ensures) (c .loop-found .inv .1) (w .in-Some .procedure) (w .in-Some .is)
-        (w .add-procedure .last .procedures .rows .now) (w .add-procedure .last .procedures .count) (w .add-procedure .last .parents .rows .now) (w .add-procedure .last .parents .count)
-        (w .in-Continue-add-procedure .ensures tt .refused)
-        (λ ps h. w .in-Continue-add-procedure .ensures tt .added ps h refl)),
+            (progress-kept (c .args .module) (c .loop-found .item) (x .symbols) (c .loop-found .procedures .rows .now) (c .loop-found .procedures .count) (c .loop-found .parents .rows .now) (c .loop-found .parents .count) (c .in-Item .found) at-k (c .kept-procedure .result) (c .kept-procedure .ensures) (c .loop-found .inv .1) (w .in-Some .procedure) (w .in-Some .is)
+            (w .add-procedure .last .procedures .rows .now) (w .add-procedure .last .procedures .count) (w .add-procedure .last .parents .rows .now) (w .add-procedure .last .parents .count)
+            (w .in-Continue-add-procedure .ensures tt .refused)
+            (λ ps h. w .in-Continue-add-procedure .ensures tt .added ps h refl)),
         ap (λ t. name (t .rows)) (w .procedures-is) ∙ w .add-procedure .ensures .lender ∙ c .loop-found .inv .2,
       )
       | in-rest w ↦ (
         omega arith,
         subst₂ (λ t u. Progress (c .args .module) (x .symbols) (c .loop-found .item + 1) (t .rows .now) (t .count) (u .rows .now) (u .count)) (sym (w .procedures-is)) (sym (w .parents-is))
-        (progress-skipped (c .args .module) (c .loop-found .item) (x .symbols) (c .loop-found .procedures .rows .now) (c .loop-found .procedures .count) (c .loop-found .parents .rows .now) (c .loop-found .parents .count) (c .in-Item .found) at-k (c .kept-procedure .result) (c .kept-procedure .ensures) (c .loop-found .inv .1) (none-from (c .kept-procedure .result) (w .in-rest .not-Some))),
+            (progress-skipped (c .args .module) (c .loop-found .item) (x .symbols) (c .loop-found .procedures .rows .now) (c .loop-found .procedures .count) (c .loop-found .parents .rows .now) (c .loop-found .parents .count) (c .in-Item .found) at-k (c .kept-procedure .result) (c .kept-procedure .ensures) (c .loop-found .inv .1) (none-from (c .kept-procedure .result) (w .in-rest .not-Some))),
         ap (λ t. name (t .rows)) (w .procedures-is) ∙ c .loop-found .inv .2,
       )
     ]
@@ -63,8 +63,8 @@ returns-in-Break-add-procedure g c =
     let p = err-from-errBy (c .from-residual .result) (c .from-residual .ensures .1) in
     record {
       read = subst (Read (c .args .module) x (c .add-procedure .last .procedures .rows .now) (c .add-procedure .last .procedures .count)) (sym (p .1))
-      (progress-refused (c .args .module) (c .loop-found .item) (x .symbols) (c .loop-found .procedures .rows .now) (c .loop-found .procedures .count) (c .loop-found .parents .rows .now) (c .loop-found .parents .count) (c .in-Item .found) at-k (c .kept-procedure .result) (c .kept-procedure .ensures) (c .loop-found .inv .1) (c .in-Some .procedure) (c .in-Some .is)
-      (p .0) (λ ps h. ap Some (p .2) ∙ c .in-Break-add-procedure .ensures tt .refused ps h));
+          (progress-refused (c .args .module) (c .loop-found .item) (x .symbols) (c .loop-found .procedures .rows .now) (c .loop-found .procedures .count) (c .loop-found .parents .rows .now) (c .loop-found .parents .count) (c .in-Item .found) at-k (c .kept-procedure .result) (c .kept-procedure .ensures) (c .loop-found .inv .1) (c .in-Some .procedure) (c .in-Some .is)
+          (p .0) (λ ps h. ap Some (p .2) ∙ c .in-Break-add-procedure .ensures tt .refused ps h));
       lender = c .add-procedure .ensures .lender ∙ c .loop-found .inv .2;
     }
 
