@@ -1,1 +1,2 @@
 // What a context is built from an image: definitions in specs/, and their laws in proofs/. The code stands in `context`.
+#![tactic(auto)]

@@ -1,5 +1,7 @@
 // Reads descriptions from standard input, each up to a `%`, and writes the tables of each, or says what is wrong with it. A row is written as a
 // word or two and its numbers, all decimal; an offset is two numbers, and so are a name's place and a part of a table.
+#![tactic(auto)]
+
 ghost use Rattle.std.specs.Prelude.{◌≡◌, ◌<◌, length};
 
 mod dump;

@@ -1,4 +1,6 @@
 // Reads the description of an image, a text of one row to a line, into the image's rows.
+#![tactic(auto)]
+
 ghost use Rattle.std.specs.Prelude.{◌≡◌, ◌^◌, ◌<◌, length, IfOk, OnOk};
 ghost use Rattle.std.specs.Option.{unwrap_or};
 ghost use Rattle.description.specs.Drafts.{nothing, lists, Says};

@@ -1,4 +1,6 @@
 // From an address to the function that it belongs to, given the procedures of its module.
+#![tactic(auto)]
+
 pub mod choose;
 pub mod locate;
 mod name;

@@ -1,4 +1,6 @@
 // A provider with some of its modules hidden.
+#![tactic(auto)]
+
 ghost use Rattle.std.specs.Prelude.{◌≡◌, ◌≤◌, true, false, [], take, Some, None, Ok, Err};
 ghost use Rattle.base.specs.declared.refusal.Refusal.TheVariants.{TooManyHidden};
 ghost use Rattle.hiding.specs.Hidden.{among, apart, hide, hide_regular, with};

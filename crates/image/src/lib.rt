@@ -1,4 +1,6 @@
 // An image, by its meaning: the questions that building asks, each answered from the meaning alone.
+#![tactic(auto)]
+
 ghost use Rattle.std.specs.Prelude.{◌≡◌};
 ghost use Rattle.std.specs.List.{slice_get};
 ghost use Rattle.image.specs.Image.{Image, Lawful, entry};

@@ -1,4 +1,6 @@
 // Rows with a total order, and what stands between a start and an end.
+#![tactic(auto)]
+
 ghost use Rattle.std.specs.Prelude.{◌≡◌, ℕ, List};
 ghost use Rattle.order.specs.Rank.{Compared};
 ghost use Rattle.order.specs.declared.Meeting.{Meeting};

@@ -1,4 +1,6 @@
 // Writes bytes so that they can be read again within quotes.
+#![tactic(auto)]
+
 ghost use Rattle.std.specs.Prelude.{◌≡◌, ◌<◌, ◌++◌, Some, string_bytes, OnOk};
 ghost use Rattle.std.specs.Char.{digit_char};
 ghost use Rattle.words.specs.Quotes.{unquoted};

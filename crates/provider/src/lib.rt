@@ -1,4 +1,6 @@
 // An image with its modules, by its meaning: the questions that lookup asks, each answered from the meaning alone.
+#![tactic(auto)]
+
 ghost use Rattle.std.specs.Prelude.{◌≡◌};
 ghost use Rattle.image.specs.Image.{entry};
 ghost use Rattle.provider.specs.Modules.{Modules, Regular, content, state_of};

@@ -1,5 +1,7 @@
 // Reads the descriptions of images from files, builds the context of each image, prints what it holds or why it is refused, and answers which
 // function an address lies in. Nothing is printed unless the command line, the files of addresses and the descriptions are all good.
+#![tactic(auto)]
+
 mod addresses;
 mod answers;
 mod failure;

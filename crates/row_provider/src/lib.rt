@@ -1,4 +1,6 @@
 // A module provider over the caller's tables.
+#![tactic(auto)]
+
 ghost use Rattle.std.specs.Prelude.{◌≡◌, false, is_some, Some, None, Ok, Err};
 ghost use Rattle.rows.specs.Tables.{meaning_of, nothing};
 ghost use Rattle.modules.specs.Meaning.{AnswersFor, modules_of, no_module};

@@ -1,4 +1,6 @@
 // The sections that a context keeps: what is asked of them, and the first step of building, which reads them.
+#![tactic(auto)]
+
 ghost use Rattle.std.specs.Prelude.{◌≡◌, ◌+◌, ◌||◌, [], IfOk, nat_le, nat_lt};
 ghost use Rattle.std.specs.Result.{result_err};
 ghost use Rattle.building.specs.Starts.{executable, keeps};

@@ -1,4 +1,6 @@
 // The table of known starts, and the two steps of building that only add to it: public symbols and section ends.
+#![tactic(auto)]
+
 ghost use Rattle.std.specs.Prelude.{◌≡◌, true, List, [], ◌∷◌, ◌++◌, length, is_ok, if◌then◌else◌, Some, None, nat_lt};
 ghost use Rattle.std.specs.Result.{result_err};
 ghost use Rattle.base.specs.declared.context.KnownStart.{KnownStart as Start};

@@ -1,3 +1,5 @@
 // The five steps of building: sections, public symbols, contributions, overlaps, section ends.
+#![tactic(auto)]
+
 mod blocks;
 pub mod fill;

@@ -1,4 +1,6 @@
 // The ordered table, over a slice that somebody lends, and containment.
+#![tactic(auto)]
+
 ghost use Rattle.std.specs.Prelude.{◌≡◌, ℕ, ◌+◌, ◌<◌, ◌≤◌, true, false, ◌++◌, length, take, drop, is_ok, if◌then◌else◌, Some, None, nat_lt};
 ghost use Rattle.std.specs.List.{insert};
 ghost use Rattle.order.specs.declared.Meeting.TheVariants.{GivesWay};
