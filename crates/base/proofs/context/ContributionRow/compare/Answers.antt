@@ -9,4 +9,4 @@ returns c =
     let a = c.args.self.now in
     let b = c.args.other.now in
     subst (λ o. Compared o (contribution_rank a) (contribution_rank b)) (sym c.then.ensures)
-    (compared_pairs a.section a.start b.section b.start (a.end ∷ a.«module» ∷ []) (b.end ∷ b.«module» ∷ []) _ _ c.by-start.ensures c.by-end.ensures)
+    (compared_pairs a.section a.start b.section b.start (a.end ∷ a.«module» ∷ []) (b.end ∷ b.«module» ∷ []) _ _ c.by_start.ensures c.by_end.ensures)
