@@ -53,9 +53,9 @@ returns-in-Both g c ord =
     let there = c.position-place.ensures.place (subst (InOrder rank) (sym (cut ∙ same)) ord) in
     let long : length (take used rows) ≡ used = length-take-le used rows few in
     let within : place ≤ used = subst (λ n. place ≤ n) (ap length cut ∙ long) c.position-place.ensures.within in
-    let room = ltb-true used (length rows) (sym c.has-room.ensures ∙ c.if-has-room.true) in
-    settled_used rank meets rows used c.args.count row (Some (used + 1)) c.open-at.new.rows same
-    (subst (Settled rank meets rows used row (Some (used + 1))) (sym c.open-at.ensures) (settled_new rank meets rows used row place few within room (subst (λ xs. placed rank meets row xs ≡ insert xs place row) cut (c.in-Both.ensures.met there))))
+    let room = ltb-true used (length rows) (sym c.has_room.ensures ∙ c.if-has_room.true) in
+    settled_used rank meets rows used c.args.count row (Some (used + 1)) c.open_at.new.rows same
+    (subst (Settled rank meets rows used row (Some (used + 1))) (sym c.open_at.ensures) (settled_new rank meets rows used row place few within room (subst (λ xs. placed rank meets row xs ≡ insert xs place row) cut (c.in-Both.ensures.met there))))
 
 pub returns-in-Both-2 : goal.returns-in-Both-2
 returns-in-Both-2 g c ord =
@@ -71,6 +71,6 @@ returns-in-Both-2 g c ord =
     let there = c.position-place.ensures.place (subst (InOrder rank) (sym (cut ∙ same)) ord) in
     let long : length (take used rows) ≡ used = length-take-le used rows few in
     let within : place ≤ used = subst (λ n. place ≤ n) (ap length cut ∙ long) c.position-place.ensures.within in
-    let room = ltb-false used (length rows) (sym c.has-room.ensures ∙ c.if-has-room.false) in
+    let room = ltb-false used (length rows) (sym c.has_room.ensures ∙ c.if-has_room.false) in
     settled_used rank meets rows used c.args.count row None rows same
     (settled_full rank meets rows used row place few within room (subst (λ xs. placed rank meets row xs ≡ insert xs place row) cut (c.in-Both.ensures.met there)))

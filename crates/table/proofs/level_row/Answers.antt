@@ -10,7 +10,7 @@ pub returns-in-Equal : goal.returns-in-Equal
 returns-in-Equal g c ord there =
     sym (found_here g.R.Row.rank c.args.rows.now (g.R.Row.rank c.args.row.now) c.args.place ord there c.index-rows-place.result c.if-place-rows.false c.index-rows-place.is c.in-Equal.ensures)
 
-pub returns-in-default : goal.returns-in-default
-returns-in-default g c ord there =
+pub returns-in_default : goal.returns-in_default
+returns-in_default g c ord there =
     sym (found_other g.R.Row.rank c.args.rows.now (g.R.Row.rank c.args.row.now) c.args.place ord there c.index-rows-place.result c.if-place-rows.false c.index-rows-place.is
-    (not_equal c.compare.result (g.R.Row.rank c.index-rows-place.result) (g.R.Row.rank c.args.row.now) c.in-default.not-Equal c.compare.ensures))
+    (not_equal c.compare.result (g.R.Row.rank c.index-rows-place.result) (g.R.Row.rank c.args.row.now) c.in_default.not-Equal c.compare.ensures))

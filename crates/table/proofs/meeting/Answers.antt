@@ -16,8 +16,8 @@ returns-in-Equal g c = record {
   met = λ h. placed-changed g.R.Row.rank g.R.Row.meets c.args.row.now c.args.rows.now c.args.place h _ (omega arith) c.index-rows-place.is c.in-Equal.ensures ∙ ap (λ m. changed m c.args.rows.now c.args.place c.args.row.now) (sym c.meet.ensures);
 }
 
-pub returns-in-default : goal.returns-in-default
-returns-in-default g c = record {
+pub returns-in_default : goal.returns-in_default
+returns-in_default g c = record {
   within = λ e. let z : ◌≡◌ {A = ℕ} 0 1 = cc in absurd (omega arith);
-  met = λ h. placed_new g.R.Row.rank g.R.Row.meets c.args.row.now c.args.rows.now c.args.place h _ (omega arith) c.index-rows-place.is (not_equal c.compare.result (g.R.Row.rank c.index-rows-place.result) (g.R.Row.rank c.args.row.now) c.in-default.not-Equal c.compare.ensures);
+  met = λ h. placed_new g.R.Row.rank g.R.Row.meets c.args.row.now c.args.rows.now c.args.place h _ (omega arith) c.index-rows-place.is (not_equal c.compare.result (g.R.Row.rank c.index-rows-place.result) (g.R.Row.rank c.args.row.now) c.in_default.not-Equal c.compare.ensures);
 }

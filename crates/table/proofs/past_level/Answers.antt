@@ -16,10 +16,10 @@ returns-in-Equal g c = record {
       reach_equal g.R.Row.rank c.args.rows.now (g.R.Row.rank c.args.row.now) c.args.place up (goes (in_order_from_rises g.R.Row.rank c.args.rows.now up)) c.index-rows-place.result c.if-place-rows.false c.index-rows-place.is c.in-Equal.ensures;
 }
 
-pub returns-in-default : goal.returns-in-default
-returns-in-default g c = record {
+pub returns-in_default : goal.returns-in_default
+returns-in_default g c = record {
   within = λ l. l;
   reach = λ up goes.
       reach_other g.R.Row.rank c.args.rows.now (g.R.Row.rank c.args.row.now) c.args.place up (goes (in_order_from_rises g.R.Row.rank c.args.rows.now up)) c.index-rows-place.result c.if-place-rows.false c.index-rows-place.is
-      (not_equal c.compare.result (g.R.Row.rank c.index-rows-place.result) (g.R.Row.rank c.args.row.now) c.in-default.not-Equal c.compare.ensures);
+      (not_equal c.compare.result (g.R.Row.rank c.index-rows-place.result) (g.R.Row.rank c.args.row.now) c.in_default.not-Equal c.compare.ensures);
 }

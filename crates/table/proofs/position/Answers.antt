@@ -15,5 +15,5 @@ loop-low-preserved g c = (
   omega arith,
   omega arith,
   c.loop-low.invariant.2,
-  λ ord. above_step g.R.Row.rank c.args.rows.now (g.R.Row.rank c.args.row.now) _ _ ord (omega arith) c.index-rows-middle.is (not_less _ (g.R.Row.rank c.index-rows-middle.result) (g.R.Row.rank c.args.row.now) c.in-default.not-Less c.compare.ensures),
+  λ ord. above_step g.R.Row.rank c.args.rows.now (g.R.Row.rank c.args.row.now) _ _ ord (omega arith) c.index-rows-middle.is (not_less _ (g.R.Row.rank c.index-rows-middle.result) (g.R.Row.rank c.args.row.now) c.in_default.not-Less c.compare.ensures),
 )
