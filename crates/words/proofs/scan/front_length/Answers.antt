@@ -6,11 +6,11 @@ use Rattle.words.proofs.scan.front_length.Goals as goal
 pub loop-i-init : goal.loop-i-init
 loop-i-init c = none_passed (of_front c.args.front) c.args.bytes.now
 
-pub returns-then-not-is-of : goal.returns-then-not-is-of
-returns-then-not-is-of c = record { value = one_failed _ _ _ c.loop-i.invariant c.loop-i-test.true (sym c.is-of.ensures ∙ c.if-not-is-of.true); within = omega arith }
+pub returns-then-not-is_of : goal.returns-then-not-is_of
+returns-then-not-is_of c = record { value = one_failed _ _ _ c.loop-i.invariant c.loop-i-test.true (sym c.is_of.ensures ∙ c.if-not-is_of.true); within = omega arith }
 
 pub loop-i-preserved : goal.loop-i-preserved
-loop-i-preserved c = one_passed _ _ _ c.loop-i.invariant c.loop-i-test.true (sym c.is-of.ensures ∙ c.if-not-is-of.false)
+loop-i-preserved c = one_passed _ _ _ c.loop-i.invariant c.loop-i-test.true (sym c.is_of.ensures ∙ c.if-not-is_of.false)
 
 pub returns : goal.returns
 returns c =
