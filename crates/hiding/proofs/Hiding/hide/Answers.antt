@@ -5,10 +5,10 @@ use Rattle.hiding.specs.Hidden.{among}
 use Rattle.hiding.proofs.Numbers.{one_more, not_again}
 use Rattle.hiding.proofs.Hiding.hide.Goals as goal
 
-pub invariant-of-self : goal.invariant-of-self
-invariant-of-self g c =
+pub invariant_of-self : goal.invariant_of-self
+invariant_of-self g c =
     let room : c.args.self.now.count < length c.args.self.now.numbers = omega arith in
-    (omega arith, (one_more c.args.self.now.count c.args.self.now.numbers c.args.number room c.args.self.now.once c.if-hides.ensures, tt))
+    record { few = omega arith; once = one_more c.args.self.now.count c.args.self.now.numbers c.args.number room c.args.self.now.once c.if-hides.ensures }
 
 pub returns : goal.returns
 returns g c =

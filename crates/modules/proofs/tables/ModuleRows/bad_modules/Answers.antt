@@ -8,7 +8,7 @@ returns-in-Some c =
 
 pub loop-i-preserved : goal.loop-i-preserved
 loop-i-preserved c =
-    c.loop-i.invariant ∙ module_goes_on c.args.self.now c.args.self.now.modules.now c.loop-i.i _ c.loop-i-test.true c.in-default.ensures
+    c.loop-i.invariant ∙ module_goes_on c.args.self.now c.args.self.now.modules.now c.loop-i.i _ c.loop-i-test.true c.in_default.ensures
 
 pub returns : goal.returns
 returns c = sym (c.loop-i.invariant ∙ module_ends c.args.self.now c.args.self.now.modules.now c.loop-i.i c.loop-i-test.false)
