@@ -7,14 +7,14 @@ use Rattle.description.proofs.read_description.Goals as goal
 
 pub loop-rest-preserved : goal.loop-rest-preserved
 loop-rest-preserved c =
-    let told = c.in-default.ensures in
-    (says_more nothing (lists c.loop-rest.draft) (lists c.read-line.new.draft) c.loop-rest.invariant.0 told, search rules)
+    let told = c.in_default.ensures in
+    (says_more nothing (lists c.loop-rest.draft) (lists c.read_line.new.draft) c.loop-rest.invariant.0 told, search rules)
 
 pub returns : goal.returns
 returns c = subst Sound (sym c.finish.ensures) (sound c.loop-rest.draft c.loop-rest.invariant.0)
 
-pub read-line-requires : goal.read-line-requires
-read-line-requires c = short-lists c.loop-rest.draft c.loop-rest.invariant.0
+pub read_line-requires : goal.read_line-requires
+read_line-requires c = short-lists c.loop-rest.draft c.loop-rest.invariant.0
 
 pub finish-requires : goal.finish-requires
 finish-requires c = short-lists c.loop-rest.draft c.loop-rest.invariant.0

@@ -2,19 +2,19 @@ use Rattle.std.proofs.Common.{◌≡◌, ◌-◌, ◌^◌, ◌<◌, length, vec_
 use Rattle.description.proofs.Growing.{is_appended}
 use Rattle.description.proofs.push.append.Goals as goal
 
-pub overflow-cast-result : goal.overflow-cast-result
-overflow-cast-result c =
-    let told = c.in-ok-unquote.ensures in
+pub overflow_cast-result : goal.overflow_cast-result
+overflow_cast-result c =
+    let told = c.in_ok-unquote.ensures in
     omega (arith, ap length told.2, length-append (vec_items c.args.text.now) told.0, c.unquote.new.out.ok.0, c.args.text.now.ok.0)
 
-pub overflow-sub-result : goal.overflow-sub-result
-overflow-sub-result c =
-    let told = c.in-ok-unquote.ensures in
+pub overflow_sub-result : goal.overflow_sub-result
+overflow_sub-result c =
+    let told = c.in_ok-unquote.ensures in
     omega (arith, ap length told.2, length-append (vec_items c.args.text.now) told.0, c.unquote.new.out.ok.0, c.args.text.now.ok.0)
 
 pub returns : goal.returns
 returns c =
-    let told = c.in-ok-unquote.ensures in
+    let told = c.in_ok-unquote.ensures in
     let old = vec_items c.args.text.now in
     let new = vec_items c.unquote.new.out in
     let more = ap length told.2 ∙ length-append old told.0 in
