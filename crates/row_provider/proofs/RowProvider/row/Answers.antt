@@ -7,6 +7,6 @@ pub returns-in-Present : goal.returns-in-Present
 returns-in-Present c =
     present_answers c.args.self.now.image.rows.text.now c.args.self.now.modules c.args.self.now.good c.args.number c.in-Some.row c.in-Some.ensures c.in-Present.is
 
-pub returns-in-default : goal.returns-in-default
-returns-in-default c =
-    subst (AnswersFor c.args.self.now.modules c.args.number) (sym c.no_module.ensures) (none_answers c.args.self.now.modules c.args.number c.in-default.ensures)
+pub returns-in_default : goal.returns-in_default
+returns-in_default c =
+    subst (AnswersFor c.args.self.now.modules c.args.number) (sym c.no_module.ensures) (none_answers c.args.self.now.modules c.args.number c.in_default.ensures)
