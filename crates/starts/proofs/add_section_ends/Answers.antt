@@ -18,17 +18,17 @@ use Rattle.starts.proofs.add_section_ends.Goals as goal
 abbrev none : Section
 none = record { address = 0; size = 0; executable = false }
 
-pub loop-number-preserved-in-Continue· : goal.loop-number-preserved-in-Continue·
-loop-number-preserved-in-Continue· c =
+pub loop-number-preserved-in-Continue-1 : goal.loop-number-preserved-in-Continue-1
+loop-number-preserved-in-Continue-1 c =
     let s = c.args.sections.now in
     let k = c.loop-number.number in
     let few : s.count ≤ length s.rows = search rules in
     let found : slice_get (used s) k ≡ Some (get_or s.rows k none) = used-at s.rows s.count k none c.loop-number-test.true few in (
       omega arith,
-      λ cs old h. subst (λ ss. Holds ss old c.add-start.new.starts.rows.now c.add-start.new.starts.count) (ends_kept cs (used s) k (get_or s.rows k none) found c.if-section.true)
-          (c.in-ok-add-start.ensures.added (cs ++ section_ends 1 (take k (used s))) old (c.loop-number.invariant.1 cs old h) refl),
-      c.add-start.ensures.lender ∙ c.loop-number.invariant.2,
-      c.add-start.ensures.long ∙ c.loop-number.invariant.3,
+      λ cs old h. subst (λ ss. Holds ss old c.add_start.new.starts.rows.now c.add_start.new.starts.count) (ends_kept cs (used s) k (get_or s.rows k none) found c.if-section.true)
+          (c.in_ok-add_start.ensures.added (cs ++ section_ends 1 (take k (used s))) old (c.loop-number.invariant.1 cs old h) refl),
+      c.add_start.ensures.lender ∙ c.loop-number.invariant.2,
+      c.add_start.ensures.long ∙ c.loop-number.invariant.3,
     )
 
 pub loop-number-preserved : goal.loop-number-preserved
@@ -43,19 +43,19 @@ loop-number-preserved c =
       c.loop-number.invariant.3,
     )
 
-pub returns-in-err-add-start : goal.returns-in-err-add-start
-returns-in-err-add-start c =
+pub returns-in_err-add_start : goal.returns-in_err-add_start
+returns-in_err-add_start c =
     let s = c.args.sections.now in
     let k = c.loop-number.number in
     let few : s.count ≤ length s.rows = search rules in
     let found : slice_get (used s) k ≡ Some (get_or s.rows k none) = used-at s.rows s.count k none c.loop-number-test.true few in
-    let p = err_from_is_err_and c.from-residual.result c.from-residual.ensures.1 in
+    let p = err_from_is_err_and c.from_residual.result c.from_residual.ensures.1 in
     record {
       refused = λ cs old h. ap result_err p.1 ∙ ap Some p.2 ∙ ends_full cs (used s) k (get_or s.rows k none) found c.if-section.true (length old) _ (StartTableFull AddSectionEnds)
-          (c.in-err-add-start.ensures.refused (cs ++ section_ends 1 (take k (used s))) old (c.loop-number.invariant.1 cs old h));
-      added = λ cs old h ok. absurd (never_ok c.from-residual.result p.0 p.1 ok);
-      lender = c.add-start.ensures.lender ∙ c.loop-number.invariant.2;
-      long = c.add-start.ensures.long ∙ c.loop-number.invariant.3;
+          (c.in_err-add_start.ensures.refused (cs ++ section_ends 1 (take k (used s))) old (c.loop-number.invariant.1 cs old h));
+      added = λ cs old h ok. absurd (never_ok c.from_residual.result p.0 p.1 ok);
+      lender = c.add_start.ensures.lender ∙ c.loop-number.invariant.2;
+      long = c.add_start.ensures.long ∙ c.loop-number.invariant.3;
     }
 
 pub returns : goal.returns
