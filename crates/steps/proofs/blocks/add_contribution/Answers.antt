@@ -19,41 +19,41 @@ passed r y e p q = ap result_err p ∙ ap Some q
 apart_of : (b : Contribution) (n : SectionContribution) → ((b.section ≡ n.offset.section) × (b.«module» ≡ n.«module» → ⊥)) ⊎ (b.section ≡ n.offset.section → ⊥) → joins b n ≡ false
 apart_of b n h = ⊎_elim (λ p. and_right (eqb b.section n.offset.section) _ (ne_eqb b.«module» n.«module» p.1)) (λ p. and_left _ (eqb b.«module» n.«module») (ne_eqb b.section n.offset.section p)) h
 
-pub returns-in-default : goal.returns-in-default
-returns-in-default c =
+pub returns-in_default : goal.returns-in_default
+returns-in_default c =
     let s = c.args.starts.now in
     let t = c.args.contributions.now in
     let new = c.args.new in
     record {
       refused = λ symbols cs old rows h.
-          c.open-block.ensures.refused ∙ sym (first-refused symbols cs old s.rows.now s.count rows t.rows.now t.count c.args.item new (subst (Reading symbols cs old s.rows.now s.count rows t.rows.now t.count) c.in-default.is h));
+          c.open_block.ensures.refused ∙ sym (first-refused symbols cs old s.rows.now s.count rows t.rows.now t.count c.args.item new (subst (Reading symbols cs old s.rows.now s.count rows t.rows.now t.count) c.in_default.is h));
       read = λ symbols cs old rows h size.
-          IfOk-weaker c.open-block.result (λ b. b ≡ block new) _
+          IfOk-weaker c.open_block.result (λ b. b ≡ block new) _
           (λ b e. subst (λ v. Reading symbols (cs ++ new ∷ []) old s.rows.now s.count rows t.rows.now t.count (Some v)) (sym e)
-          (first_read symbols cs old s.rows.now s.count rows t.rows.now t.count c.args.item new (subst (Reading symbols cs old s.rows.now s.count rows t.rows.now t.count) c.in-default.is h) size))
-          c.open-block.ensures.opened;
-      starts-lender = refl;
-      starts-long = refl;
-      contributions-lender = refl;
-      contributions-long = refl;
+          (first_read symbols cs old s.rows.now s.count rows t.rows.now t.count c.args.item new (subst (Reading symbols cs old s.rows.now s.count rows t.rows.now t.count) c.in_default.is h) size))
+          c.open_block.ensures.opened;
+      starts_lender = refl;
+      starts_long = refl;
+      contributions_lender = refl;
+      contributions_long = refl;
     }
 
-pub returns-in-err-add-start : goal.returns-in-err-add-start
-returns-in-err-add-start c =
+pub returns-in_err-add_start : goal.returns-in_err-add_start
+returns-in_err-add_start c =
     let s = c.args.starts.now in
     let t = c.args.contributions.now in
-    let p = err_from_is_err_and c.from-residual.result c.from-residual.ensures.1 in
+    let p = err_from_is_err_and c.from_residual.result c.from_residual.ensures.1 in
     record {
       refused = λ symbols cs old rows h.
           let h' : Reading symbols cs old s.rows.now s.count rows t.rows.now t.count (Some c.in-Some.block) = subst (Reading symbols cs old s.rows.now s.count rows t.rows.now t.count) c.in-Some.is h in
-          passed c.from-residual.result p.0 _ p.1 p.2 ∙
+          passed c.from_residual.result p.0 _ p.1 p.2 ∙
           later_full symbols cs old s.rows.now s.count rows t.rows.now t.count c.args.item c.args.new c.in-Some.block h' _
-          (c.in-err-add-start.ensures.refused _ old h'.starts_hold);
-      read = λ symbols cs old rows h size. none_made c.from-residual.result p.0 _ p.1;
-      starts-lender = c.add-start.ensures.lender;
-      starts-long = c.add-start.ensures.long;
-      contributions-lender = refl;
-      contributions-long = refl;
+          (c.in_err-add_start.ensures.refused _ old h'.starts_hold);
+      read = λ symbols cs old rows h size. none_made c.from_residual.result p.0 _ p.1;
+      starts_lender = c.add_start.ensures.lender;
+      starts_long = c.add_start.ensures.long;
+      contributions_lender = refl;
+      contributions_long = refl;
     }
 
 pub returns-then-block-new-2 : goal.returns-then-block-new-2
@@ -66,41 +66,41 @@ returns-then-block-new-2 c =
     record {
       refused = λ symbols cs old rows h.
           let h' : Reading symbols cs old s.rows.now s.count rows t.rows.now t.count (Some b) = subst (Reading symbols cs old s.rows.now s.count rows t.rows.now t.count) c.in-Some.is h in
-          later_joined symbols cs old s.rows.now s.count rows t.rows.now t.count c.args.item new b h' (result_err c.extend-block.result)
-          (c.in-ok-add-start.ensures.refused _ old h'.starts_hold) joined c.extend-block.ensures.refused;
+          later_joined symbols cs old s.rows.now s.count rows t.rows.now t.count c.args.item new b h' (result_err c.extend_block.result)
+          (c.in_ok-add_start.ensures.refused _ old h'.starts_hold) joined c.extend_block.ensures.refused;
       read = λ symbols cs old rows h size.
           let h' : Reading symbols cs old s.rows.now s.count rows t.rows.now t.count (Some b) = subst (Reading symbols cs old s.rows.now s.count rows t.rows.now t.count) c.in-Some.is h in
-          made_since c.extend-block.result _ (λ x. x ≡ grown b new) _ c.extend-block.ensures.refused c.extend-block.ensures.grown
+          made_since c.extend_block.result _ (λ x. x ≡ grown b new) _ c.extend_block.ensures.refused c.extend_block.ensures.grown
           (λ x none e.
-          subst (λ v. Reading symbols (cs ++ new ∷ []) old c.add-start.new.starts.rows.now c.add-start.new.starts.count rows t.rows.now t.count (Some v)) (sym e)
+          subst (λ v. Reading symbols (cs ++ new ∷ []) old c.add_start.new.starts.rows.now c.add_start.new.starts.count rows t.rows.now t.count (Some v)) (sym e)
           (joined_read symbols cs old s.rows.now s.count rows t.rows.now t.count c.args.item new b h' _ _
-          (c.in-ok-add-start.ensures.added _ old h'.starts_hold refl) joined size
+          (c.in_ok-add_start.ensures.added _ old h'.starts_hold refl) joined size
           (joined_start symbols cs old s.rows.now s.count rows t.rows.now t.count c.args.item new b h' none)));
-      starts-lender = c.add-start.ensures.lender;
-      starts-long = c.add-start.ensures.long;
-      contributions-lender = refl;
-      contributions-long = refl;
+      starts_lender = c.add_start.ensures.lender;
+      starts_long = c.add_start.ensures.long;
+      contributions_lender = refl;
+      contributions_long = refl;
     }
 
-pub returns-in-err-close-block : goal.returns-in-err-close-block
-returns-in-err-close-block c =
+pub returns-in_err-close_block : goal.returns-in_err-close_block
+returns-in_err-close_block c =
     let s = c.args.starts.now in
     let t = c.args.contributions.now in
     let new = c.args.new in
     let b = c.in-Some.block in
-    let p = err_from_is_err_and c.from-residual-in-err-close-block.result c.from-residual-in-err-close-block.ensures.1 in
+    let p = err_from_is_err_and c.from_residual-in_err-close_block.result c.from_residual-in_err-close_block.ensures.1 in
     record {
       refused = λ symbols cs old rows h.
           let h' : Reading symbols cs old s.rows.now s.count rows t.rows.now t.count (Some b) = subst (Reading symbols cs old s.rows.now s.count rows t.rows.now t.count) c.in-Some.is h in
-          passed c.from-residual-in-err-close-block.result p.0 _ p.1 p.2 ∙
+          passed c.from_residual-in_err-close_block.result p.0 _ p.1 p.2 ∙
           later_no_room symbols cs old s.rows.now s.count rows t.rows.now t.count c.args.item new b h' _
-          (c.in-ok-add-start.ensures.refused _ old h'.starts_hold) (apart_of b new c.else-block-new.either)
-          (c.in-err-close-block.ensures.refused _ rows h'.closed);
-      read = λ symbols cs old rows h size. none_made c.from-residual-in-err-close-block.result p.0 _ p.1;
-      starts-lender = c.add-start.ensures.lender;
-      starts-long = c.add-start.ensures.long;
-      contributions-lender = c.close-block.ensures.lender;
-      contributions-long = c.close-block.ensures.long;
+          (c.in_ok-add_start.ensures.refused _ old h'.starts_hold) (apart_of b new c.else-block-new.either)
+          (c.in_err-close_block.ensures.refused _ rows h'.closed);
+      read = λ symbols cs old rows h size. none_made c.from_residual-in_err-close_block.result p.0 _ p.1;
+      starts_lender = c.add_start.ensures.lender;
+      starts_long = c.add_start.ensures.long;
+      contributions_lender = c.close_block.ensures.lender;
+      contributions_long = c.close_block.ensures.long;
     }
 
 pub returns : goal.returns
@@ -113,20 +113,20 @@ returns c =
     record {
       refused = λ symbols cs old rows h.
           let h' : Reading symbols cs old s.rows.now s.count rows t.rows.now t.count (Some b) = subst (Reading symbols cs old s.rows.now s.count rows t.rows.now t.count) c.in-Some.is h in
-          later_opened symbols cs old s.rows.now s.count rows t.rows.now t.count c.args.item new b h' (result_err c.open-block-2.result)
-          (c.in-ok-add-start.ensures.refused _ old h'.starts_hold) apart
-          (c.in-ok-close-block.ensures.refused _ rows h'.closed) c.open-block-2.ensures.refused;
+          later_opened symbols cs old s.rows.now s.count rows t.rows.now t.count c.args.item new b h' (result_err c.open_block-2.result)
+          (c.in_ok-add_start.ensures.refused _ old h'.starts_hold) apart
+          (c.in_ok-close_block.ensures.refused _ rows h'.closed) c.open_block-2.ensures.refused;
       read = λ symbols cs old rows h size.
           let h' : Reading symbols cs old s.rows.now s.count rows t.rows.now t.count (Some b) = subst (Reading symbols cs old s.rows.now s.count rows t.rows.now t.count) c.in-Some.is h in
-          IfOk-weaker c.open-block-2.result (λ x. x ≡ block new) _
+          IfOk-weaker c.open_block-2.result (λ x. x ≡ block new) _
           (λ x e.
-          subst (λ v. Reading symbols (cs ++ new ∷ []) old c.add-start.new.starts.rows.now c.add-start.new.starts.count rows c.close-block.new.contributions.rows.now c.close-block.new.contributions.count (Some v)) (sym e)
+          subst (λ v. Reading symbols (cs ++ new ∷ []) old c.add_start.new.starts.rows.now c.add_start.new.starts.count rows c.close_block.new.contributions.rows.now c.close_block.new.contributions.count (Some v)) (sym e)
           (opened_read symbols cs old s.rows.now s.count rows t.rows.now t.count c.args.item new b h' _ _ _ _
-          (c.in-ok-add-start.ensures.added _ old h'.starts_hold refl)
-          (c.in-ok-close-block.ensures.added _ rows h'.closed refl) apart size))
-          c.open-block-2.ensures.opened;
-      starts-lender = c.add-start.ensures.lender;
-      starts-long = c.add-start.ensures.long;
-      contributions-lender = c.close-block.ensures.lender;
-      contributions-long = c.close-block.ensures.long;
+          (c.in_ok-add_start.ensures.added _ old h'.starts_hold refl)
+          (c.in_ok-close_block.ensures.added _ rows h'.closed refl) apart size))
+          c.open_block-2.ensures.opened;
+      starts_lender = c.add_start.ensures.lender;
+      starts_long = c.add_start.ensures.long;
+      contributions_lender = c.close_block.ensures.lender;
+      contributions_long = c.close_block.ensures.long;
     }

@@ -11,10 +11,10 @@ pub returns-in-Some : goal.returns-in-Some
 returns-in-Some c =
     let split : (bs : List Contribution) → c.args.current ≡ slice_get bs 0 → bs ≡ c.in-Some.block ∷ drop 1 bs = λ bs e. newest_some bs c.in-Some.block (sym c.in-Some.is ∙ e) in
     record {
-      refused = λ bs old h e. c.close-block.ensures.refused (drop 1 bs) old h ∙ ap (λ l. cond (ltb (length old) (length l)) (Some ContributionTableFull) None) (sym (split bs e));
-      closed = λ bs old h e ok. subst (λ l. Filed l old c.close-block.new.contributions.rows.now c.close-block.new.contributions.count) (sym (split bs e)) (c.close-block.ensures.added (drop 1 bs) old h ok);
-      lender = c.close-block.ensures.lender;
-      long = c.close-block.ensures.long;
+      refused = λ bs old h e. c.close_block.ensures.refused (drop 1 bs) old h ∙ ap (λ l. cond (ltb (length old) (length l)) (Some ContributionTableFull) None) (sym (split bs e));
+      closed = λ bs old h e ok. subst (λ l. Filed l old c.close_block.new.contributions.rows.now c.close_block.new.contributions.count) (sym (split bs e)) (c.close_block.ensures.added (drop 1 bs) old h ok);
+      lender = c.close_block.ensures.lender;
+      long = c.close_block.ensures.long;
     }
 
 pub returns-in-None : goal.returns-in-None
