@@ -5,7 +5,7 @@ ghost use Rattle.order.specs.Placed.{Reach};
 ghost use Rattle.base.specs.Rows.{offset_rank, start_rank};
 ghost use Rattle.procedures.specs.Rows.{procedure_rank};
 ghost use Rattle.context.specs.Context.{meaning};
-ghost use Rattle.lookup.specs.Finding.{covers as contained, chosen, reaches, follows, capped as at-most-top, of_procedure, of_start, function_at};
+ghost use Rattle.lookup.specs.Finding.{covers as contained, chosen, reaches, follows, capped as at_most_top, of_procedure, of_start, function_at};
 
 use crate::name::{procedure_name, raw_or_none};
 use base::context::KnownStart;
@@ -42,7 +42,7 @@ fn choose(procedures: &[Procedure], offset: SectionOffset) -> Option<Procedure>
 
 // An address above the top is none.
 fn capped(address: u64) -> Option<u32>
-    ensures { result ≡ at-most-top address }
+    ensures { result ≡ at_most_top address }
 {
     u32::try_from(address).ok()
 }

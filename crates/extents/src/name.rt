@@ -3,7 +3,7 @@ ghost use Rattle.std.specs.Prelude.{◌≡◌};
 ghost use Rattle.order.specs.Rank.{Rises, at};
 ghost use Rattle.base.specs.Rows.{offset_rank, start_rank};
 ghost use Rattle.context.specs.Context.{meaning};
-ghost use Rattle.lookup.specs.Finding.{decorated as has-mark, decorated_name, procedure_name, raw_or_none};
+ghost use Rattle.lookup.specs.Finding.{decorated as has_mark, decorated_name, procedure_name, raw_or_none};
 
 use base::context::KnownStart;
 use base::image::{SectionOffset, TextPart};
@@ -14,7 +14,7 @@ use table::find;
 
 // Whether a name begins with "?", as decorated names do.
 fn decorated(text: &[u8], name: TextPart) -> bool
-    ensures { result ≡ has-mark text.now name }
+    ensures { result ≡ has_mark text.now name }
 {
     let Some(bytes) = part_of(text, name) else {
         return false;

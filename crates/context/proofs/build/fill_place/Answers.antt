@@ -11,23 +11,23 @@ use Rattle.sections.specs.Used.{used}
 use Rattle.context.proofs.build.fill_place.Given as given
 use Rattle.context.proofs.build.fill_place.Goals as goal
 
-pub slice-bounds-count-named-end : goal.slice-bounds-count-named-end
-slice-bounds-count-named-end g c =
+pub slice_bounds-count_named-end : goal.slice_bounds-count_named-end
+slice_bounds-count_named-end g c =
     let starts = c.args.tables.now.starts.now in
     let rows = c.args.tables.now.contributions.now in
     let h = holds_start starts c.over-starts.result.rows.now c.over-starts.result.count (c.over-starts.ensures.rows ∙ ap (λ r. r.now) c.replace.ensures.value) c.over-starts.ensures.count in
     let f = filed_start rows c.over-contributions.result.rows.now c.over-contributions.result.count (c.over-contributions.ensures.rows ∙ ap (λ r. r.now) c.replace-2.ensures.value) c.over-contributions.ensures.count in
     (c.in-Ok.ensures.filled starts rows h f).starts_hold.untouched.few
 
-pub invariant-of-place : goal.invariant-of-place
-invariant-of-place g c =
+pub invariant_of-place : goal.invariant_of-place
+invariant_of-place g c =
     let starts = c.args.tables.now.starts.now in
     let rows = c.args.tables.now.contributions.now in
     let h = holds_start starts c.over-starts.result.rows.now c.over-starts.result.count (c.over-starts.ensures.rows ∙ ap (λ r. r.now) c.replace.ensures.value) c.over-starts.ensures.count in
     let f = filed_start rows c.over-contributions.result.rows.now c.over-contributions.result.count (c.over-contributions.ensures.rows ∙ ap (λ r. r.now) c.replace-2.ensures.value) c.over-contributions.ensures.count in
     let filled = c.in-Ok.ensures.filled starts rows h f in
     let whole : c.fill-filled.new.starts.count - 0 ≡ c.fill-filled.new.starts.count = omega arith in
-    (filled.starts_hold.untouched.few, (filled.rows_filed.untouched.few, (filled.starts_hold.known.rises, (filled.rows_filed.stands.in_order, (filled.rows_apart, (c.count-named-named-count.ensures ∙ ap (λ n. length (filter named (take n c.fill-filled.new.starts.rows.now))) whole, tt))))))
+    record { few_starts = filled.starts_hold.untouched.few; few_contributions = filled.rows_filed.untouched.few; rises = filled.starts_hold.known.rises; ordered = filled.rows_filed.stands.in_order; apart_all = filled.rows_apart; counted = c.count_named-named_count.ensures ∙ ap (λ n. length (filter named (take n c.fill-filled.new.starts.rows.now))) whole }
 
 pub returns-in-Ok : goal.returns-in-Ok
 returns-in-Ok g c =
@@ -65,12 +65,12 @@ returns-in-Err g c =
       granted = tt;
       refused = c.in-Err.ensures.refused starts rows h f;
       place = refl;
-      starts = c.fill-filled.ensures.starts-long ∙ ap length es;
-      contributions = c.fill-filled.ensures.contributions-long ∙ ap length ec;
+      starts = c.fill-filled.ensures.starts_long ∙ ap length es;
+      contributions = c.fill-filled.ensures.contributions_long ∙ ap length ec;
       taken = tt;
       given_back = (
-        c.fill-filled.ensures.starts-lender ∙ c.over-starts.ensures.lender ∙ ap (λ r. r.ghost_name) c.replace.ensures.value,
-        c.fill-filled.ensures.contributions-lender ∙ c.over-contributions.ensures.lender ∙ ap (λ r. r.ghost_name) c.replace-2.ensures.value,
+        c.fill-filled.ensures.starts_lender ∙ c.over-starts.ensures.lender ∙ ap (λ r. r.ghost_name) c.replace.ensures.value,
+        c.fill-filled.ensures.contributions_lender ∙ c.over-contributions.ensures.lender ∙ ap (λ r. r.ghost_name) c.replace-2.ensures.value,
       );
       runs = blocks_are_runs (all_kept (g.S.ImageSource.image c.args.source.now));
       one = one_outcome (g.S.ImageSource.image c.args.source.now) (length starts) (length rows);

@@ -7,4 +7,4 @@ pub returns-then-upto-starts : goal.returns-then-upto-starts
 returns-then-upto-starts c up h = sym (above-none c.args.starts.now c.args.offset c.args.upto up h c.if-upto-starts.true)
 
 pub returns : goal.returns
-returns c up h = c.of-section.ensures ∙ sym (above_is c.args.starts.now c.args.offset c.args.upto up h no_start c.if-upto-starts.false)
+returns c up h = c.of_section.ensures ∙ sym (above_is c.args.starts.now c.args.offset c.args.upto up h no_start c.if-upto-starts.false)

@@ -7,4 +7,4 @@ pub returns-then-upto-eq0 : goal.returns-then-upto-eq0
 returns-then-upto-eq0 c up h = sym (below_none c.args.starts.now c.args.offset c.args.upto up h c.if-upto-eq0.true)
 
 pub returns : goal.returns
-returns c up h = c.of-section.ensures ∙ sym (below_is c.args.starts.now c.args.offset c.args.upto up h no_start c.if-upto-eq0.false)
+returns c up h = c.of_section.ensures ∙ sym (below_is c.args.starts.now c.args.offset c.args.upto up h no_start c.if-upto-eq0.false)

@@ -11,7 +11,7 @@ loop-k-preserved c =
     let s = c.args.sections.now in
     let k = c.loop-k.k in
     let few : s.count ≤ length s.rows = search rules in
-    sym (spot_on (k + 1) s.rows s.count c.args.address k few none c.loop-k-test.true c.in-default.ensures.spot) ∙ c.loop-k.invariant
+    sym (spot_on (k + 1) s.rows s.count c.args.address k few none c.loop-k-test.true c.in_default.ensures.spot) ∙ c.loop-k.invariant
 
 pub returns-in-Some : goal.returns-in-Some
 returns-in-Some c =
