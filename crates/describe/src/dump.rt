@@ -5,10 +5,10 @@ use description::Description;
 use description::tables::{ImageTables, PartTables};
 use printing::push_escaped;
 use provider::symbols::ModuleState;
-use std::fmt;
+use std::alloc::AllocError;
 use std::fmt::Write;
 
-pub fn write_description(out: &mut String, description: &Description) -> fmt::Result {
+pub fn write_description(out: &mut String, description: &Description) -> Result<(), AllocError> {
     write_text(out, description.text.as_slice())?;
     write_image(out, &description.image)?;
     write_said(out, description)?;
@@ -18,22 +18,20 @@ pub fn write_description(out: &mut String, description: &Description) -> fmt::Re
     write_rows(out, description.questions.as_slice())
 }
 
-fn write_text(out: &mut String, text: &[u8]) -> fmt::Result {
-    out.write_str("text \"")?;
-    if push_escaped(out, text).is_err() {
-        return Err(fmt::Error);
-    }
-    out.write_str("\"\n")
+fn write_text(out: &mut String, text: &[u8]) -> Result<(), AllocError> {
+    out.push_str("text \"")?;
+    push_escaped(out, text)?;
+    out.push_str("\"\n")
 }
 
-fn write_image(out: &mut String, image: &ImageTables) -> fmt::Result {
+fn write_image(out: &mut String, image: &ImageTables) -> Result<(), AllocError> {
     write_rows(out, image.sections.as_slice())?;
     write_rows(out, image.symbols.as_slice())?;
     write_rows(out, image.contributions.as_slice())
 }
 
 // What is said once, or what stands for it.
-fn write_said(out: &mut String, description: &Description) -> fmt::Result {
+fn write_said(out: &mut String, description: &Description) -> Result<(), AllocError> {
     let starts = description.start_rows;
     let contributions = description.contribution_rows;
     write_ending(out, "publics", description.symbols_end)?;
@@ -41,13 +39,13 @@ fn write_said(out: &mut String, description: &Description) -> fmt::Result {
     writeln!(out, "tables {starts} {contributions}")
 }
 
-fn write_ending(out: &mut String, list: &str, ending: Ending) -> fmt::Result {
+fn write_ending(out: &mut String, list: &str, ending: Ending) -> Result<(), AllocError> {
     write!(out, "{list} end")?;
     write_cell(out, Cell::Ending(ending))?;
-    out.write_str("\n")
+    out.push_str("\n")
 }
 
-fn write_parts(out: &mut String, parts: &PartTables) -> fmt::Result {
+fn write_parts(out: &mut String, parts: &PartTables) -> Result<(), AllocError> {
     write_rows(out, parts.symbols.as_slice())?;
     write_rows(out, parts.files.as_slice())?;
     write_rows(out, parts.sites.lists.as_slice())?;
@@ -56,19 +54,19 @@ fn write_parts(out: &mut String, parts: &PartTables) -> fmt::Result {
     write_rows(out, parts.lines.rows.as_slice())
 }
 
-fn write_rows<T: Show>(out: &mut String, rows: &[T]) -> fmt::Result {
+fn write_rows<T: Show>(out: &mut String, rows: &[T]) -> Result<(), AllocError> {
     for row in rows {
         write_row(out, row.shown())?;
     }
     Ok(())
 }
 
-fn write_row(out: &mut String, row: Shown) -> fmt::Result {
-    out.write_str(heading_text(row.heading))?;
+fn write_row(out: &mut String, row: Shown) -> Result<(), AllocError> {
+    out.push_str(heading_text(row.heading))?;
     for cell in row.cells.iter() {
         write_cell(out, *cell)?;
     }
-    out.write_str("\n")
+    out.push_str("\n")
 }
 
 fn heading_text(heading: Heading) -> &'static str {
@@ -93,28 +91,28 @@ fn heading_text(heading: Heading) -> &'static str {
     }
 }
 
-fn write_cell(out: &mut String, cell: Cell) -> fmt::Result {
+fn write_cell(out: &mut String, cell: Cell) -> Result<(), AllocError> {
     match cell {
         Cell::Number(n) => write_number(out, n),
         Cell::Place(place) => write_two(out, place.section as u32, place.offset),
         Cell::Name(name) => write_two(out, name.start, name.length),
         Cell::Part(part) => write_two(out, part.first, part.count),
-        Cell::Ending(Ending::Clean) => out.write_str(" clean"),
+        Cell::Ending(Ending::Clean) => out.push_str(" clean"),
         Cell::Ending(Ending::Fault(code)) => write!(out, " fault {code}"),
-        Cell::State(state) => out.write_str(state_text(state)),
-        Cell::Executable(true) => out.write_str(" executable"),
-        Cell::Executable(false) => out.write_str(" data"),
+        Cell::State(state) => out.push_str(state_text(state)),
+        Cell::Executable(true) => out.push_str(" executable"),
+        Cell::Executable(false) => out.push_str(" data"),
         Cell::Length(Some(length)) => write_number(out, length),
-        Cell::Length(None) => out.write_str(" none"),
+        Cell::Length(None) => out.push_str(" none"),
         Cell::Nothing => Ok(()),
     }
 }
 
-fn write_number(out: &mut String, n: u32) -> fmt::Result {
+fn write_number(out: &mut String, n: u32) -> Result<(), AllocError> {
     write!(out, " {n}")
 }
 
-fn write_two(out: &mut String, first: u32, second: u32) -> fmt::Result {
+fn write_two(out: &mut String, first: u32, second: u32) -> Result<(), AllocError> {
     write!(out, " {first} {second}")
 }
 

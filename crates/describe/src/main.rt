@@ -10,8 +10,7 @@ mod shown;
 use description::mistake::ReadError;
 use description::read_description;
 use dump::write_description;
-use std::alloc::Global;
-use std::fmt;
+use std::alloc::{AllocError, Global};
 use std::fmt::Write;
 use std::io::Read;
 use words::scan::cut;
@@ -30,25 +29,25 @@ fn run(rt: &HostRuntime) -> anyhow::Result<()> {
     Ok(())
 }
 
-fn write_all(heap: Global, out: &mut String, input: &[u8]) -> fmt::Result {
+fn write_all(heap: Global, out: &mut String, input: &[u8]) -> Result<(), AllocError> {
     let mut rest = input;
     while !rest.is_empty() {
         let (one, after) = first_of(rest);
         write_one(heap, out, one)?;
-        out.write_str("%\n")?;
+        out.push_str("%\n")?;
         rest = after;
     }
     Ok(())
 }
 
-fn write_one(heap: Global, out: &mut String, input: &[u8]) -> fmt::Result {
+fn write_one(heap: Global, out: &mut String, input: &[u8]) -> Result<(), AllocError> {
     match read_description(heap, input) {
         Ok(description) => write_description(out, &description),
         Err(error) => write_error(out, error),
     }
 }
 
-fn write_error(out: &mut String, error: ReadError) -> fmt::Result {
+fn write_error(out: &mut String, error: ReadError) -> Result<(), AllocError> {
     writeln!(out, "{error}")
 }
 
