@@ -13,7 +13,7 @@ returns g c =
       answer =
           ap Ok (c.function_at.ensures c.procedures.ensures.rises fits ∙ ap (λ t. function_at t (meaning c.args.context.now).starts c.in-Some.location c.procedures.result.now) c.text.ensures ∙
           ap (function_at (g.P.ImageSource.image c.args.self.now.provider).text (meaning c.args.context.now).starts c.in-Some.location) (c.procedures.ensures.value ∙ ap (λ s. s.procedures) c.want.ensures.shelf)) ∙
-          located_answer (g.P.ImageSource.image c.args.self.now.provider).text (g.P.ModuleProvider.modules c.args.self.now.provider) (meaning c.args.context.now) c.args.address c.in-Some.location (shelved c.args.self.now.shelf) c.in-Some.ensures c.in-ok-want.ensures.answer;
+          located_answer (g.P.ImageSource.image c.args.self.now.provider).text (g.P.ModuleProvider.modules c.args.self.now.provider) (meaning c.args.context.now) c.args.address c.in-Some.location (shelved c.args.self.now.shelf) c.in-Some.ensures c.in_ok-want.ensures.answer;
       shelf = c.want.ensures.shelf ∙ located_shelf (g.P.ImageSource.image c.args.self.now.provider).text (g.P.ModuleProvider.modules c.args.self.now.provider) (meaning c.args.context.now) c.args.address c.in-Some.location (shelved c.args.self.now.shelf) c.in-Some.ensures;
       provider = refl;
     }
