@@ -1,14 +1,13 @@
 -- What an insertion into the used rows of a table leaves. Assumes nothing.
-use Rattle.std.proofs.Common.{◌≡◌, ℕ, zero, suc, ◌+◌, ◌-◌, ◌<◌, ◌≤◌, min, Bool, true, false, cond, ◌≢◌, ◌⊎◌, List, [], ◌∷◌, ◌++◌, length, get_or, take, drop, set, Some, None, Option, sym, refl, ap, ◌∙◌, subst, inl, inr, ⊎_elim, arith, drop-cons}
-use Rattle.std.proofs.lemmas.List.{places, same_lists, take-append-drop, set_split, set-append_left, length-set, length-take-le, length-append, length-drop, length-take, drop_all, get_or_append_left, get_or-append_right, get_or-take, get_or-drop, take_all}
+use Rattle.std.proofs.Common.{◌≡◌, ℕ, suc, ◌+◌, ◌-◌, ◌<◌, ◌≤◌, min, true, false, List, [], ◌∷◌, ◌++◌, length, get_or, take, drop, set, Some, None, Option, sym, refl, ap, ◌∙◌, subst, ⊎_elim, arith, drop-cons}
+use Rattle.std.proofs.lemmas.List.{same_lists, take-append-drop, set_split, set-append_left, length-set, length-take-le, length-append, length-drop, drop_all, get_or_append_left, get_or-append_right, get_or-take, get_or-drop, take_all}
 use Rattle.std.proofs.lemmas.List.Edits.{length-insert, get_or-insert_below, get_or-insert_at, get_or-insert_above}
-use Rattle.std.proofs.lemmas.Bool.{cases_order, cases_lt, cond-true, cond-false}
+use Rattle.std.proofs.lemmas.Bool.{cases_lt, cond-true, cond-false}
 use Rattle.std.specs.List.{insert}
 use Rattle.order.specs.declared.Meeting.{Meeting}
 use Rattle.order.specs.declared.Meeting.TheVariants.{Stays, GivesWay, Both}
 use Rattle.order.specs.Rank.{before, same}
 use Rattle.order.specs.Placed.{met, placed, changed, Place, Settled}
-use Rattle.order.proofs.Ranks.{same_eq}
 use Rattle.order.proofs.Rows.{placed_split}
 
 -- the rows from p up to n have moved up by one, and r stands at p

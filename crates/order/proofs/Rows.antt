@@ -1,14 +1,13 @@
 -- Lists of rows in order, and what one more row does to them. Assumes nothing.
-use Rattle.std.proofs.Common.{◌≡◌, ℕ, zero, suc, ◌+◌, ◌-◌, ◌<◌, ◌≤◌, Bool, true, false, cond, not, ◌&&◌, eqb, ltb, ◌⊎◌, List, [], ◌∷◌, ◌++◌, length, get_or, take, drop, is_some, Some, None, Option, sym, refl, ap, ◌∙◌, subst, inl, inr, ⊎_elim, arith}
-use Rattle.std.proofs.lemmas.Bool.Decides.{nat_tests}
+use Rattle.std.proofs.Common.{◌≡◌, ℕ, zero, suc, ◌+◌, ◌<◌, ◌≤◌, Bool, true, false, cond, not, List, [], ◌∷◌, ◌++◌, length, get_or, take, drop, is_some, Some, None, Option, sym, refl, ap, ◌∙◌, subst, ⊎_elim, arith}
 use Rattle.std.proofs.lemmas.Bool.{both_ways, cases_Bool, cond-true, cond-false, not-true, and_parts, and_from}
 use Rattle.std.proofs.ByRecursion.{All-get_or, All-weaker}
 use Rattle.std.specs.List.{AllByRecursion as All}
 use Rattle.order.specs.declared.Meeting.{Meeting}
 use Rattle.order.specs.declared.Meeting.TheVariants.{Stays, GivesWay, Both}
-use Rattle.order.specs.Rank.{before, same, every, pairwise, Pairwise, InOrder, Rises, first, at, tally}
+use Rattle.order.specs.Rank.{before, same, every, pairwise, Pairwise, InOrder, Rises, at, tally}
 use Rattle.order.specs.Placed.{met, placed}
-use Rattle.order.proofs.Ranks.{before_trans, before_irrefl, before_asym, same_refl, same_eq, before_not_same, not_before, upto_before, before-upto, cases_rank}
+use Rattle.order.proofs.Ranks.{before_irrefl, before_asym, same_refl, same_eq, before_not_same, not_before, upto_before, before-upto}
 
 every_all : {X : Type 0} (test : X → Bool) (xs : List X) → every test xs ≡ true → All (λ y. test y ≡ true) xs
 every_all test [] h = tt

@@ -1,9 +1,8 @@
 -- A list in order is known by what stands at each rank. Assumes nothing.
-use Rattle.std.proofs.Common.{◌≡◌, ℕ, zero, suc, ◌+◌, ◌<◌, ◌≤◌, Bool, true, false, cond, not, ◌⊎◌, List, [], ◌∷◌, Some, None, Option, sym, refl, ap, ◌∙◌, subst, inl, inr, ⊎_elim, arith}
-use Rattle.std.proofs.lemmas.Bool.{both_ways, cases_Bool, cond-true, cond-false, not-true}
+use Rattle.std.proofs.Common.{◌≡◌, ℕ, suc, true, false, cond, not, List, [], ◌∷◌, Some, None, Option, sym, refl, ap, ◌∙◌, subst, ⊎_elim, arith}
+use Rattle.std.proofs.lemmas.Bool.{cases_Bool, cond-true, cond-false, not-true}
 use Rattle.std.proofs.ByRecursion.{All-weaker}
 use Rattle.std.specs.List.{AllByRecursion as All}
-use Rattle.order.specs.declared.Meeting.{Meeting}
 use Rattle.order.specs.declared.Meeting.TheVariants.{Stays}
 use Rattle.order.specs.Rank.{before, same, InOrder, Rises, at, tally}
 use Rattle.order.proofs.Ranks.{before_trans, same_refl, same_eq, before_not_same, before-upto, cases_rank}

@@ -1,4 +1,4 @@
-use Rattle.std.proofs.Common.{◌<◌, length, arith}
+use Rattle.std.proofs.Common.{arith}
 use Rattle.order.proofs.Search.{below_step, above_step, not_less}
 use Rattle.table.proofs.position.Goals as goal
 

@@ -1,4 +1,4 @@
-use Rattle.std.proofs.Common.{◌≡◌, [], ◌∷◌, sym, subst}
+use Rattle.std.proofs.Common.{[], ◌∷◌, sym, subst}
 use Rattle.order.specs.Rank.{Compared}
 use Rattle.order.proofs.Ranks.{compared_pairs}
 use Rattle.base.specs.Rows.{contribution_rank}
