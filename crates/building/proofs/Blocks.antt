@@ -1,7 +1,7 @@
 -- Blocks in order, of which no neighbours overlap, lie apart. Assumes nothing.
-use Rattle.std.proofs.Common.{◌≡◌, ℕ, zero, suc, ◌+◌, ◌-◌, ◌<◌, ◌≤◌, min, Bool, true, false, cond, not, ◌&&◌, ◌||◌, eqb, ltb, leb, ◌⊎◌, List, [], ◌∷◌, ◌++◌, length, get_or, take, drop, Some, None, fold, Option, sym, refl, ap, ◌∙◌, subst, ⊎_elim, arith}
-use Rattle.std.specs.List.{AllByRecursion as All, slice_get}
-use Rattle.std.proofs.lemmas.Bool.{both_ways, cases_Bool, cond-true, cond-false, not-true, and_from, and_left, and_right, eq-eqb, ne_eqb, lt-ltb, le-ltb}
+use Rattle.std.proofs.Common.{◌≡◌, ℕ, zero, suc, ◌+◌, ◌-◌, ◌<◌, ◌≤◌, min, true, false, cond, not, List, [], ◌∷◌, ◌++◌, length, get_or, take, drop, Some, None, fold, sym, refl, ap, ◌∙◌, subst, ⊎_elim, arith}
+use Rattle.std.specs.List.{AllByRecursion}
+use Rattle.std.proofs.lemmas.Bool.{cases_Bool, cond-true, cond-false}
 use Rattle.std.proofs.lemmas.List.{drop_more, length-drop, length-take, get_or-take}
 use Rattle.std.proofs.ByRecursion.{All-weaker, All-from_get_or}
 use Rattle.std.proofs.lemmas.Bool.Decides.{nat_tests}
@@ -117,7 +117,7 @@ tally-at [] k d l = absurd (omega arith)
 tally-at (x ∷ xs) zero d l = let e : ◌≡◌ {A = ℕ} (cond (same (contribution_rank x) (contribution_rank x)) 1 0) 1 = ap (λ t. cond t 1 0) (same_refl (contribution_rank x)) in omega arith
 tally-at (x ∷ xs) (suc k) d l = let h = tally-at xs k d (omega arith) in omega arith
 
-tally_has : (P : Contribution → Type 0) (bs : List Contribution) (x : Contribution) → 0 < tally contribution_rank (contribution_rank x) bs → All P bs → P x
+tally_has : (P : Contribution → Type 0) (bs : List Contribution) (x : Contribution) → 0 < tally contribution_rank (contribution_rank x) bs → AllByRecursion P bs → P x
 tally_has P [] x l a = absurd (omega arith)
 tally_has P (b ∷ bs) x l a =
     ⊎_elim
@@ -125,7 +125,7 @@ tally_has P (b ∷ bs) x l a =
     (λ t. tally_has P bs x (let e : ◌≡◌ {A = ℕ} (cond (same (contribution_rank b) (contribution_rank x)) 1 0) 0 = ap (λ v. cond v 1 0) t in omega arith) a.1)
     (cases_Bool (same (contribution_rank b) (contribution_rank x)))
 
-pub stands_all : (P : Contribution → Type 0) (bs xs : List Contribution) → Stands bs xs → All P bs → All P xs
+pub stands_all : (P : Contribution → Type 0) (bs xs : List Contribution) → Stands bs xs → AllByRecursion P bs → AllByRecursion P xs
 stands_all P bs xs h a =
     All-from_get_or P xs no_contribution (λ k l. tally_has P bs (get_or xs k no_contribution) (subst (λ n. 0 < n) (h.as_often (get_or xs k no_contribution)) (tally-at xs k no_contribution l)) a)
 

@@ -3,8 +3,7 @@ use Rattle.std.proofs.Common.{◌≡◌, ℕ, suc, ◌+◌, ◌-◌, ◌<◌, �
 use Rattle.std.proofs.lemmas.List.{take_at, drop_at, length-append, length-drop, length-take-le, drop-drop}
 use Rattle.std.proofs.lemmas.Bool.{cond-true, cond-false, le-ltb, lt-ltb}
 use Rattle.order.specs.declared.Meeting.{Meeting}
-use Rattle.order.specs.declared.Meeting.TheVariants.{Both}
-use Rattle.order.specs.Rank.{before, same, InOrder, Rises, tally}
+use Rattle.order.specs.Rank.{before, same, InOrder}
 use Rattle.order.specs.Placed.{placed, Settled}
 use Rattle.order.proofs.Rows.{pairwise-none, in_order-placed, in_order_from_rises, length-placed_both, tally-placed_both, length-placed_least}
 use Rattle.base.specs.Rows.{start_rank, start_meets, contribution_rank, contribution_meets}

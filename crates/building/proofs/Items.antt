@@ -1,10 +1,8 @@
 -- One item more of a list that is asked by number. Assumes nothing.
-use Rattle.std.proofs.Common.{◌≡◌, ℕ, zero, suc, ◌+◌, ◌<◌, ◌≤◌, Bool, true, false, cond, List, [], ◌∷◌, ◌++◌, map, length, take, drop, Some, None, filter, Option, sym, refl, ap, ◌∙◌, subst, append-nil, add-one, arith}
-use mathlib.Core.List.{map-append}
+use Rattle.std.proofs.Common.{◌≡◌, ℕ, zero, suc, ◌+◌, ◌<◌, Bool, cond, List, [], ◌∷◌, ◌++◌, length, take, drop, Some, None, filter, Option, sym, refl, ap, ◌∙◌, add-one, arith}
 use Rattle.std.specs.List.{slice_get}
 use Rattle.std.proofs.lemmas.List.Elements.{filter-append}
 use Rattle.base.specs.declared.image.Ending.{Ending}
-use Rattle.base.specs.declared.image.Entry.{Entry}
 use Rattle.base.specs.declared.image.Entry.TheVariants.{Item, End}
 use Rattle.base.specs.declared.refusal.Refusal.{Refusal}
 use Rattle.image.specs.Image.{entry}

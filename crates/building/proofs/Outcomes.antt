@@ -1,5 +1,5 @@
 -- Building has one outcome, and which step gives it. Assumes nothing.
-use Rattle.std.proofs.Common.{◌≡◌, ℕ, true, false, cond, ltb, List, ◌++◌, length, take, is_ok, IfOk, Some, None, Ok, Err, Option, Result, sym, refl, ap, ◌∙◌, subst, arith}
+use Rattle.std.proofs.Common.{◌≡◌, ℕ, true, false, cond, ltb, List, ◌++◌, length, take, is_ok, IfOk, Some, None, Ok, Err, Option, Result, sym, ap, ◌∙◌, subst, arith}
 use Rattle.base.specs.declared.image.Section.{Section}
 use Rattle.base.specs.declared.context.KnownStart.{KnownStart}
 use Rattle.base.specs.declared.context.Contribution.{Contribution}
@@ -8,7 +8,7 @@ use Rattle.base.specs.declared.refusal.Refusal.TheVariants.{StartTableFull}
 use Rattle.base.specs.declared.refusal.Step.TheVariants.{ReadPublicSymbols, AddSectionEnds}
 use Rattle.base.specs.declared.refusal.FaultyList.TheVariants.{PublicSymbols}
 use Rattle.image.specs.Image.{Image}
-use Rattle.building.specs.Starts.{or_else, Known, symbol_starts, contribution_starts, section_ends, offset_count}
+use Rattle.building.specs.Starts.{or_else, symbol_starts, contribution_starts, section_ends, offset_count}
 use Rattle.building.specs.Blocks.{blocks, Stands, first_overlap}
 use Rattle.building.specs.Outcome.{fault, all_symbols, all_kept, all_starts, sections_refused, symbols_refused, contributions_refused, ends_refused, refusal, Built, Outcome}
 use Rattle.building.specs.Filling.{Filled}

@@ -1,19 +1,18 @@
 -- Blocks are the longest runs. Assumes nothing.
-use Rattle.std.proofs.Common.{◌≡◌, ℕ, Bool, true, false, cond, ◌&&◌, eqb, ◌⊎◌, List, [], ◌∷◌, ◌++◌, map, reverse, fold, sym, refl, ap, ◌∙◌, subst, ⊎_elim, append_assoc, append-nil}
-use Rattle.std.specs.List.{flat_map, AllByRecursion as All}
+use Rattle.std.proofs.Common.{◌≡◌, true, false, ◌&&◌, eqb, List, [], ◌∷◌, ◌++◌, map, reverse, fold, sym, refl, ap, ◌∙◌, subst, ⊎_elim, append_assoc, append-nil}
+use Rattle.std.specs.List.{flat_map, AllByRecursion}
 use Rattle.std.proofs.ByRecursion.{All-weaker}
 use Rattle.std.proofs.lemmas.List.{reverse-append}
 use Rattle.std.proofs.lemmas.Bool.{cases_Bool, cond-true, cond-false, and_parts, eqb-true}
 use Rattle.base.specs.declared.image.SectionContribution.{SectionContribution}
-use Rattle.base.specs.declared.context.Contribution.{Contribution}
-use Rattle.building.specs.Blocks.{block, joins, grown, more, blocks, end_of}
-use Rattle.building.specs.Runs.{alike, Run, Differ, Longest, oldest, span, BlocksAreRuns}
+use Rattle.building.specs.Blocks.{more, end_of}
+use Rattle.building.specs.Runs.{alike, Run, Longest, oldest, span, BlocksAreRuns}
 
 abbrev Id : List SectionContribution → List SectionContribution
 Id r = r
 
 record Good (rs : List (List SectionContribution)) : Type 0 where
-  runs : All Run rs
+  runs : AllByRecursion Run rs
   longest : Longest rs
 
 -- what one contribution more makes of the runs

@@ -1,9 +1,8 @@
 -- Known starts, one start after the other. Assumes nothing.
-use Rattle.std.proofs.Common.{◌≡◌, ℕ, zero, suc, ◌+◌, ◌<◌, ◌≤◌, Bool, true, false, cond, not, ◌&&◌, eqb, ◌⊎◌, List, [], ◌∷◌, ◌++◌, length, is_some, Some, None, Option, sym, refl, ap, ◌∙◌, subst, inl, inr, ⊎_elim, append_assoc, append-nil, arith}
-use Rattle.std.proofs.lemmas.Bool.{both_ways, cases_Bool, cond-true, cond-false, and_parts, and_from, and_left}
-use Rattle.order.specs.declared.Meeting.{Meeting}
+use Rattle.std.proofs.Common.{◌≡◌, ℕ, ◌+◌, ◌≤◌, Bool, true, false, cond, not, ◌&&◌, List, [], ◌∷◌, ◌++◌, length, is_some, Some, None, Option, sym, refl, ap, ◌∙◌, subst, ⊎_elim, append_assoc, append-nil, arith}
+use Rattle.std.proofs.lemmas.Bool.{cases_Bool, cond-true, cond-false, and_parts, and_from}
 use Rattle.order.specs.declared.Meeting.TheVariants.{Stays, GivesWay, Both}
-use Rattle.order.specs.Rank.{before, same, Rises, first, at}
+use Rattle.order.specs.Rank.{before, same, first, at}
 use Rattle.order.specs.Placed.{placed}
 use Rattle.order.proofs.Ranks.{same_refl, same_eq}
 use Rattle.order.proofs.Rows.{winner, pairwise-none, rises-placed, at-placed_away, at-placed_here, length-placed, same_flip}

@@ -1,6 +1,6 @@
 -- What becomes of an image's contributions. Assumes nothing.
 use Rattle.std.specs.Prelude.{◌≡◌, ℕ, ◌+◌, Bool, cond, ◌&&◌, ◌||◌, List, [], ◌∷◌, Some, None, fold, Option, ◌==◌, nat_le, nat_lt}
-use Rattle.order.specs.Rank.{InOrder, tally, Pairwise}
+use Rattle.order.specs.Rank.{InOrder, tally}
 use Rattle.base.specs.Rows.{contribution_rank}
 use Rattle.base.specs.declared.image.SectionContribution.{SectionContribution}
 use Rattle.base.specs.declared.context.Contribution.{Contribution}

@@ -1,6 +1,6 @@
 -- How far building has filled its tables: what the steps keep. Assumes nothing.
 use Rattle.std.specs.Prelude.{◌≡◌, ℕ, ◌<◌, ◌≤◌, List, ◌++◌, length, take, drop, None, Option}
-use Rattle.std.specs.List.{AllByRecursion as All, slice_get}
+use Rattle.std.specs.List.{AllByRecursion, slice_get}
 use Rattle.order.specs.Rank.{Pairwise}
 use Rattle.image.specs.Image.{Image}
 use Rattle.base.specs.declared.image.Section.{Section}
@@ -31,7 +31,7 @@ pub record Filed (bs old rows : List Contribution) (count : ℕ) : Type 0 where
 
 -- blocks are not empty
 abbrev pub Proper : List Contribution → Type 0
-Proper bs = All (λ b. b.start < b.end) bs
+Proper bs = AllByRecursion (λ b. b.start < b.end) bs
 
 -- the contributions in cs have been read, after the starts of the public symbols; the newest block is still open
 pub record Reading (symbols : List KnownStart) (cs : List SectionContribution) (old-starts starts : List KnownStart) (start-count : ℕ) (old-rows rows : List Contribution) (row_count : ℕ) (newest : Option Contribution) : Type 0 where

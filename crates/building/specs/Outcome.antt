@@ -1,5 +1,5 @@
 -- What building gives: a context's tables, or which refusal. Assumes nothing.
-use Rattle.std.specs.Prelude.{◌≡◌, ℕ, ◌+◌, Bool, true, false, cond, not, ◌&&◌, ◌||◌, List, [], ◌∷◌, ◌++◌, length, take, Some, None, Ok, Err, Option, Result, nat_le, nat_lt}
+use Rattle.std.specs.Prelude.{◌≡◌, ℕ, ◌+◌, Bool, false, cond, not, ◌&&◌, ◌||◌, List, [], ◌∷◌, ◌++◌, length, take, Some, None, Ok, Err, Option, Result, nat_le, nat_lt}
 use Rattle.base.specs.declared.image.Section.{Section}
 use Rattle.base.specs.declared.image.SectionContribution.{SectionContribution}
 use Rattle.base.specs.declared.image.Ending.{Ending}

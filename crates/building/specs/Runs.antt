@@ -1,6 +1,6 @@
 -- Blocks in other words: the longest runs of neighbours of one section and module. Assumes nothing.
-use Rattle.std.specs.Prelude.{◌≡◌, ℕ, Bool, true, false, ◌&&◌, List, [], ◌∷◌, map, reverse, ◌==◌}
-use Rattle.std.specs.List.{flat_map, AllByRecursion as All}
+use Rattle.std.specs.Prelude.{◌≡◌, Bool, true, false, ◌&&◌, List, [], ◌∷◌, map, reverse, ◌==◌}
+use Rattle.std.specs.List.{flat_map, AllByRecursion}
 use Rattle.base.specs.Rows.{no_contribution}
 use Rattle.base.specs.declared.image.SectionContribution.{SectionContribution}
 use Rattle.base.specs.declared.context.Contribution.{Contribution}
@@ -12,7 +12,7 @@ alike a b = a.offset.section == b.offset.section && a.«module» == b.«module»
 -- a run, the newest first: one contribution at least, and all of one section and module
 abbrev pub Run : List SectionContribution → Type 0
 Run [] = ⊥
-Run (c ∷ cs) = All (λ d. alike d c ≡ true) cs
+Run (c ∷ cs) = AllByRecursion (λ d. alike d c ≡ true) cs
 
 -- two runs, the newer first, are of different sections or modules
 abbrev pub Differ : List SectionContribution → List SectionContribution → Type 0
@@ -37,4 +37,4 @@ span (c ∷ cs) = record { section = c.offset.section; start = (oldest c cs).off
 
 -- the contributions fall into such runs, and each is one block
 abbrev pub BlocksAreRuns : List SectionContribution → Type 0
-BlocksAreRuns cs = (rs : List (List SectionContribution)) × (flat_map (λ r. r) rs ≡ reverse cs) × All Run rs × Longest rs × (blocks cs ≡ map span rs)
+BlocksAreRuns cs = (rs : List (List SectionContribution)) × (flat_map (λ r. r) rs ≡ reverse cs) × AllByRecursion Run rs × Longest rs × (blocks cs ≡ map span rs)

@@ -1,5 +1,5 @@
 -- Which starts an image has. Assumes nothing.
-use Rattle.std.specs.Prelude.{◌≡◌, ℕ, ◌+◌, ◌-◌, Bool, true, false, cond, not, ◌&&◌, List, [], ◌∷◌, ◌++◌, map, drop, is_some, Some, None, filter, Option, ◌==◌}
+use Rattle.std.specs.Prelude.{◌≡◌, ℕ, ◌+◌, ◌-◌, Bool, false, cond, not, ◌&&◌, List, [], ◌∷◌, ◌++◌, map, drop, is_some, Some, None, filter, Option, ◌==◌}
 use Rattle.std.specs.List.{slice_get}
 use Rattle.order.specs.Rank.{same, Rises, first, at}
 use Rattle.base.specs.Rows.{offset_rank, start_rank, named}

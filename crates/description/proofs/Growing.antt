@@ -1,8 +1,8 @@
 -- How the lists of a description grow. Assumes nothing.
-use Rattle.std.proofs.Common.{◌≡◌, ℕ, ◌+◌, ◌^◌, ◌<◌, Bool, true, false, cond, ltb, List, [], ◌∷◌, ◌++◌, length, Some, None, Option, refl, ap, ◌∙◌, arith, ltb-true, lt-ltb}
+use Rattle.std.proofs.Common.{◌≡◌, ℕ, ◌^◌, ◌<◌, cond, List, [], ◌∷◌, ◌++◌, length, Some, None, refl, ap, ◌∙◌, arith, lt-ltb}
 use Rattle.std.specs.Option.{option_map}
 use Rattle.words.specs.Quotes.{unquoted}
-use Rattle.description.specs.Lists.{then, short, appended, split_last}
+use Rattle.description.specs.Lists.{short, appended, split_last}
 
 split_push : {X : Type 0} (xs : List X) (x : X) → split_last (xs ++ x ∷ []) ≡ Some (xs, x)
 split_push [] x = refl

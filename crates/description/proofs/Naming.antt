@@ -1,7 +1,7 @@
 -- Quoted names lie within the text. Assumes nothing.
-use Rattle.std.proofs.Common.{◌≡◌, ℕ, ◌+◌, ◌≤◌, List, [], ◌∷◌, ◌++◌, length, Some, None, Option, sym, refl, subst, arith, length-append}
+use Rattle.std.proofs.Common.{◌≡◌, ℕ, List, [], ◌∷◌, ◌++◌, length, Some, None, Option, subst, arith, length-append}
 use Rattle.std.proofs.ByRecursion.{All-weaker, All-push}
-use Rattle.std.specs.List.{AllByRecursion as All}
+use Rattle.std.specs.List.{AllByRecursion}
 use Rattle.base.specs.declared.image.TextPart.{TextPart}
 use Rattle.provider.specs.declared.symbols.ModuleState.{ModuleState}
 use Rattle.provider.specs.declared.symbols.Symbol.{Symbol}
@@ -17,7 +17,7 @@ use Rattle.description.specs.declared.row.Row.TheVariants.{Text, Image, Module, 
 use Rattle.description.specs.Drafts.{ImageLists, PartLists, ModuleLists, Lists, nothing, image_added, part_pushed, told_with, module_with, module_opened, module_grown, list_begun, list_grown, new_lines, new_site, longer_lines, longer_site, row_added, line_said, said, with_text}
 use Rattle.description.specs.Lists.{short, pushed, appended, split_last}
 use Rattle.description.specs.Names.{SymbolName, ImageName, PartName, RowName, Quoting, Within, Named}
-use Rattle.description.specs.Rows.{symbol_named, image_named, part_named, named}
+use Rattle.description.specs.Rows.{symbol_named, named}
 use Rattle.description.proofs.Options.{at_some, at_mapped, at-then, short-same}
 
 -- what a symbol, an image and a module's part have of names
@@ -79,21 +79,21 @@ row_bears P n h (Hide m) = tt
 row_bears P n h (Ask q) = tt
 
 -- one row more of which P holds
-pushed_all : {X : Type 0} (P : X → Type 0) (xs : List X) (x : X) (ys : List X) → pushed xs x ≡ Some ys → All P xs → P x → All P ys
-pushed_all P xs x ys e h p = subst (All P) (short-same (xs ++ x ∷ []) ys e) (All-push P xs x h p)
+pushed_all : {X : Type 0} (P : X → Type 0) (xs : List X) (x : X) (ys : List X) → pushed xs x ≡ Some ys → AllByRecursion P xs → P x → AllByRecursion P ys
+pushed_all P xs x ys e h p = subst (AllByRecursion P) (short-same (xs ++ x ∷ []) ys e) (All-push P xs x h p)
 
 record NamedParts (P : TextPart → Type 0) (a : PartLists) : Type 0 where
-  symbols : All (λ s. SymbolName P s.symbol) a.symbols
-  files : All (λ f. P f.name) a.files
+  symbols : AllByRecursion (λ s. SymbolName P s.symbol) a.symbols
+  files : AllByRecursion (λ f. P f.name) a.files
 
-image-names : (P : TextPart → Type 0) (r : ImageRow) (a b : ImageLists) → image_added r a ≡ Some b → ImageName P r → All (λ s. P s.name) a.symbols → All (λ s. P s.name) b.symbols
-image-names P (Section s) a b e n h = at_mapped (λ z. All (λ s. P s.name) z.symbols) _ (pushed a.sections s) b e (λ x p. h)
-image-names P (Public s) a b e n h = at_mapped (λ z. All (λ s. P s.name) z.symbols) _ (pushed a.symbols s) b e (λ x p. pushed_all (λ s. P s.name) a.symbols s x p h n)
-image-names P (Contribution s) a b e n h = at_mapped (λ z. All (λ s. P s.name) z.symbols) _ (pushed a.contributions s) b e (λ x p. h)
-image-names P (PublicsEnd s) a b e n h = at_mapped (λ z. All (λ s. P s.name) z.symbols) _ _ b e (λ x p. h)
-image-names P (ContributionsEnd s) a b e n h = at_mapped (λ z. All (λ s. P s.name) z.symbols) _ _ b e (λ x p. h)
-image-names P (StartTable s) a b e n h = at_mapped (λ z. All (λ s. P s.name) z.symbols) _ _ b e (λ x p. h)
-image-names P (ContributionTable s) a b e n h = at_mapped (λ z. All (λ s. P s.name) z.symbols) _ _ b e (λ x p. h)
+image-names : (P : TextPart → Type 0) (r : ImageRow) (a b : ImageLists) → image_added r a ≡ Some b → ImageName P r → AllByRecursion (λ s. P s.name) a.symbols → AllByRecursion (λ s. P s.name) b.symbols
+image-names P (Section s) a b e n h = at_mapped (λ z. AllByRecursion (λ s. P s.name) z.symbols) _ (pushed a.sections s) b e (λ x p. h)
+image-names P (Public s) a b e n h = at_mapped (λ z. AllByRecursion (λ s. P s.name) z.symbols) _ (pushed a.symbols s) b e (λ x p. pushed_all (λ s. P s.name) a.symbols s x p h n)
+image-names P (Contribution s) a b e n h = at_mapped (λ z. AllByRecursion (λ s. P s.name) z.symbols) _ (pushed a.contributions s) b e (λ x p. h)
+image-names P (PublicsEnd s) a b e n h = at_mapped (λ z. AllByRecursion (λ s. P s.name) z.symbols) _ _ b e (λ x p. h)
+image-names P (ContributionsEnd s) a b e n h = at_mapped (λ z. AllByRecursion (λ s. P s.name) z.symbols) _ _ b e (λ x p. h)
+image-names P (StartTable s) a b e n h = at_mapped (λ z. AllByRecursion (λ s. P s.name) z.symbols) _ _ b e (λ x p. h)
+image-names P (ContributionTable s) a b e n h = at_mapped (λ z. AllByRecursion (λ s. P s.name) z.symbols) _ _ b e (λ x p. h)
 
 part-names : (P : TextPart → Type 0) (p : ModulePart) (a b : PartLists) → part_pushed p a ≡ Some b → PartName P p → NamedParts P a → NamedParts P b
 part-names P (SymbolPart r) a b e n h = at_mapped (NamedParts P) _ (pushed a.symbols r) b e (λ x p. record { symbols = pushed_all (λ s. SymbolName P s.symbol) a.symbols r x p h.symbols n; files = h.files })
@@ -142,7 +142,7 @@ line_names None r a b e n h = row_names r a b e (row_weaker (λ _. ⊥) (Within 
 line_names (Some raw) r a b e n h =
     at-then Named (appended raw.now a.text) _ b e (λ q p f. let k = text-names a raw.now q p h in row_names (named q.1 r) (with_text a q.0) b f (row_bears (Within q.0) q.1 k.0 r) k.1)
 
-pub said-names : (ls : List RowLine) (a b : Lists) → said ls a ≡ Some b → All Quoting ls → Named a → Named b
+pub said-names : (ls : List RowLine) (a b : Lists) → said ls a ≡ Some b → AllByRecursion Quoting ls → Named a → Named b
 said-names [] a b e n h = at_some Named a b e h
 said-names (l ∷ ls) a b e n h = at-then Named (line_said l a) (said ls) b e (λ m p f. said-names ls m b f n.1 (line_names l.quoted l.row a m p n.0 h))
 

@@ -1,5 +1,5 @@
 -- What follows where something was made step by step. Assumes nothing.
-use Rattle.std.proofs.Common.{◌≡◌, ℕ, ◌+◌, ◌^◌, ◌<◌, Bool, true, false, cond, ltb, List, [], ◌∷◌, ◌++◌, length, IfSome, Some, None, Option, refl, subst, arith, ltb-true}
+use Rattle.std.proofs.Common.{◌≡◌, ℕ, ◌^◌, ◌<◌, Bool, true, false, cond, ltb, List, length, IfSome, Some, None, Option, refl, subst, arith, ltb-true}
 use Rattle.std.specs.Option.{option_map}
 use Rattle.description.specs.Lists.{then, short}
 

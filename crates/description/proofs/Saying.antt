@@ -1,11 +1,8 @@
 -- What rows say, one after another. Assumes nothing.
-use Rattle.std.proofs.Common.{◌≡◌, ℕ, ◌+◌, ◌^◌, ◌<◌, ◌≤◌, Bool, true, false, cond, ltb, List, [], ◌∷◌, ◌++◌, length, Some, None, Option, sym, refl, ap, ◌∙◌, subst, arith, length-append, ltb-true}
-use Rattle.std.proofs.ByRecursion.{All-weaker, All-push, All-append}
-use Rattle.std.specs.Option.{option_map}
-use Rattle.std.specs.List.{AllByRecursion as All}
-use Rattle.description.specs.declared.draft.Draft.{Draft}
+use Rattle.std.proofs.Common.{◌≡◌, List, [], ◌∷◌, ◌++◌, Some, None, Option, refl, ap, ◌∙◌}
+use Rattle.std.proofs.ByRecursion.{All-append}
 use Rattle.description.specs.declared.row.Line.{Line as RowLine}
-use Rattle.description.specs.Drafts.{Lists, nothing, lists, line_said, said, Says}
+use Rattle.description.specs.Drafts.{Lists, line_said, said, Says}
 use Rattle.description.specs.Lists.{then}
 use Rattle.description.specs.Rows.{Fitting}
 

@@ -1,6 +1,5 @@
 -- No list grows too long. Assumes nothing.
-use Rattle.std.proofs.Common.{◌≡◌, ℕ, ◌^◌, ◌<◌, List, [], ◌∷◌, ◌++◌, length, Some, None, Option, refl, lit<}
-use Rattle.std.specs.List.{AllByRecursion as All}
+use Rattle.std.proofs.Common.{◌≡◌, ℕ, ◌^◌, ◌<◌, List, [], ◌∷◌, ◌++◌, length, Some, None, Option, lit<}
 use Rattle.modules.specs.declared.tables.LineList.{LineList}
 use Rattle.modules.specs.declared.tables.RowRange.{RowRange}
 use Rattle.modules.specs.declared.tables.SiteList.{SiteList}
@@ -18,7 +17,7 @@ use Rattle.description.specs.declared.row.Row.{Row}
 use Rattle.description.specs.declared.row.Row.TheVariants.{Text, Image, Module, Part, Hide, Ask}
 use Rattle.description.specs.Described.{ShortImage, ShortParts, Short}
 use Rattle.description.specs.Drafts.{ImageLists, Parted, PartLists, ModuleLists, Lists, nothing, image_added, part_pushed, told_with, module_with, module_opened, module_grown, list_begun, list_grown, new_lines, new_site, longer_lines, longer_site, row_added, line_said, said, with_text}
-use Rattle.description.specs.Lists.{then, short, pushed, appended, split_last, part_at}
+use Rattle.description.specs.Lists.{short, pushed, appended, split_last, part_at}
 use Rattle.description.specs.Rows.{named}
 use Rattle.description.proofs.Options.{at_some, at_mapped, at-then, short-short}
 

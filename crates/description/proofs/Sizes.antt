@@ -1,6 +1,6 @@
 -- Sizes that are said are small. Assumes nothing.
 use Rattle.std.proofs.Common.{◌≡◌, ℕ, ◌^◌, ◌≤◌, List, [], ◌∷◌, Some, None, Option}
-use Rattle.std.specs.List.{AllByRecursion as All}
+use Rattle.std.specs.List.{AllByRecursion}
 use Rattle.base.specs.declared.image.TextPart.{TextPart}
 use Rattle.description.specs.declared.row.ImageRow.{ImageRow}
 use Rattle.description.specs.declared.row.ImageRow.TheVariants.{Section, Public, Contribution, PublicsEnd, ContributionsEnd, StartTable, ContributionTable}
@@ -8,7 +8,7 @@ use Rattle.description.specs.declared.row.Line.{Line as RowLine}
 use Rattle.description.specs.declared.row.Row.{Row}
 use Rattle.description.specs.declared.row.Row.TheVariants.{Text, Image, Module, Part, Hide, Ask}
 use Rattle.description.specs.Described.{Room}
-use Rattle.description.specs.Drafts.{ImageLists, Lists, nothing, image_added, module_opened, module_grown, row_added, line_said, said, with_text}
+use Rattle.description.specs.Drafts.{ImageLists, Lists, image_added, module_opened, module_grown, row_added, line_said, said, with_text}
 use Rattle.description.specs.Lists.{pushed, appended, once}
 use Rattle.description.specs.Rows.{FittingImage, Fitting, image_named, named}
 use Rattle.description.proofs.Options.{never, at_some, at_mapped, at-then}
@@ -59,6 +59,6 @@ line_room None r a b e f h = row_room r a b e f h
 line_room (Some raw) r a b e f h =
     at-then (λ z. Roomy z.image) (appended raw.now a.text) _ b e (λ q p g. row_room (named q.1 r) (with_text a q.0) b g (row_fits q.1 r f) h)
 
-pub said-room : (ls : List RowLine) (a b : Lists) → said ls a ≡ Some b → All (λ l. Fitting l.row) ls → Roomy a.image → Roomy b.image
+pub said-room : (ls : List RowLine) (a b : Lists) → said ls a ≡ Some b → AllByRecursion (λ l. Fitting l.row) ls → Roomy a.image → Roomy b.image
 said-room [] a b e f h = at_some (λ z. Roomy z.image) a b e h
 said-room (l ∷ ls) a b e f h = at-then (λ z. Roomy z.image) (line_said l a) (said ls) b e (λ m p g. said-room ls m b g f.1 (line_room l.quoted l.row a m p f.0 h))

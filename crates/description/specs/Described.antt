@@ -1,7 +1,7 @@
 -- What a description holds. Assumes nothing.
 use Rattle.std.specs.Prelude.{◌≡◌, ℕ, ◌+◌, ◌^◌, ◌<◌, ◌≤◌, List, length, IfSome, Some, vec_items, vec_len, Option}
 use Rattle.std.specs.Option.{unwrap_or}
-use Rattle.std.specs.List.{AllByRecursion as All}
+use Rattle.std.specs.List.{AllByRecursion}
 use Rattle.base.specs.declared.image.Ending.TheVariants.{Clean}
 use Rattle.description.specs.declared.Description.{Description}
 use Rattle.description.specs.declared.draft.Draft.{Draft}
@@ -9,7 +9,7 @@ use Rattle.description.specs.declared.row.Line.{Line}
 use Rattle.description.specs.declared.said.Said.{Said}
 use Rattle.description.specs.declared.said.Told.{Told}
 use Rattle.description.specs.declared.tables.ImageTables.{ImageTables}
-use Rattle.description.specs.Drafts.{ImageLists, PartLists, ModuleLists, Lists, nothing, image_lists, part_lists, said}
+use Rattle.description.specs.Drafts.{ImageLists, PartLists, Lists, nothing, image_lists, part_lists, said}
 use Rattle.description.specs.Names.{Quoting, Named}
 
 -- each public symbol, contribution and section may give a start
@@ -79,4 +79,4 @@ pub record Sound (d : Description) : Type 0 where
   pub room : Room once.start_rows × Room once.contribution_rows
   pub short : Short (lists_of d once told)
   -- quoted names lie within the text
-  pub names : All Quoting rows → Named (lists_of d once told)
+  pub names : AllByRecursion Quoting rows → Named (lists_of d once told)

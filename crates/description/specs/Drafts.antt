@@ -1,7 +1,7 @@
 -- What a row adds to a description. Assumes nothing.
 use Rattle.std.specs.Prelude.{◌≡◌, ℕ, ◌^◌, ◌<◌, true, false, cond, List, [], ◌∷◌, Some, None, vec_items, vec_len, Option}
 use Rattle.std.specs.Option.{option_map}
-use Rattle.std.specs.List.{AllByRecursion as All}
+use Rattle.std.specs.List.{AllByRecursion}
 use Rattle.base.specs.declared.image.Ending.{Ending}
 use Rattle.base.specs.declared.image.Ending.TheVariants.{Clean}
 use Rattle.base.specs.declared.image.PublicSymbol.{PublicSymbol}
@@ -257,7 +257,7 @@ said (l ∷ ls) a = then (line_said l a) (said ls)
 -- some rows lead from a to b
 pub record Says (a b : Lists) : Type 0 where
   pub rows : List RowLine
-  pub fitting : All (λ l. Fitting l.row) rows
+  pub fitting : AllByRecursion (λ l. Fitting l.row) rows
   pub whole : said rows a ≡ Some b
 
 -- the parts of modules are counted in 32 bits

@@ -1,6 +1,6 @@
 -- Where the names of rows lie. Assumes nothing.
 use Rattle.std.specs.Prelude.{ℕ, ◌+◌, ◌≤◌, List, length, Some, None}
-use Rattle.std.specs.List.{AllByRecursion as All}
+use Rattle.std.specs.List.{AllByRecursion}
 use Rattle.base.specs.declared.image.TextPart.{TextPart}
 use Rattle.provider.specs.declared.symbols.Symbol.{Symbol}
 use Rattle.provider.specs.declared.symbols.Symbol.TheVariants.{Procedure, Thunk, SeparatedCode, InlineSite, Other}
@@ -57,6 +57,6 @@ Within text n = n.start + n.length ≤ length text
 
 -- every name is a part of the text
 pub record Named (a : Lists) : Type 0 where
-  pub publics : All (λ s. Within a.text s.name) a.image.symbols
-  pub symbols : All (λ s. SymbolName (Within a.text) s.symbol) a.modules.parts.symbols
-  pub files : All (λ f. Within a.text f.name) a.modules.parts.files
+  pub publics : AllByRecursion (λ s. Within a.text s.name) a.image.symbols
+  pub symbols : AllByRecursion (λ s. SymbolName (Within a.text) s.symbol) a.modules.parts.symbols
+  pub files : AllByRecursion (λ f. Within a.text f.name) a.modules.parts.files

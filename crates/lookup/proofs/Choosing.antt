@@ -2,7 +2,7 @@
 use Rattle.std.proofs.Common.{◌≡◌, ℕ, zero, suc, ◌<◌, Bool, true, false, cond, ◌&&◌, ◌⊎◌, List, [], ◌∷◌, ◌++◌, length, get_or, Some, None, Option, sym, refl, ap, ◌∙◌, subst, inl, inr, ⊎_elim, arith}
 use Rattle.std.proofs.lemmas.Bool.{both_ways, cases_Bool, cond-true, cond-false, and_left, and_right}
 use Rattle.std.proofs.ByRecursion.{All-weaker, all-has, all_from_every}
-use Rattle.std.specs.List.{ContainsAt as Has, AllByRecursion as All}
+use Rattle.std.specs.List.{ContainsAt as Has, AllByRecursion}
 use Rattle.order.specs.Rank.{before, Rises, later, first, last}
 use Rattle.order.proofs.Ranks.{before_irrefl, before_asym}
 use Rattle.order.proofs.Rows.{pairwise_cons}
@@ -10,7 +10,7 @@ use Rattle.base.specs.declared.image.SectionOffset.{SectionOffset}
 use Rattle.building.specs.Starts.{or_else}
 use Rattle.procedures.specs.Rows.{procedure_rank}
 use Rattle.procedures.specs.declared.row.Procedure.{Procedure}
-use Rattle.lookup.specs.Finding.{covers, chosen}
+use Rattle.lookup.specs.Finding.{covers}
 use Rattle.lookup.specs.Laws.{StartsLast}
 
 pub some_is : {Y : Type 0} (a b : Y) → Some a ≡ Some b → a ≡ b
@@ -59,11 +59,11 @@ module _ {X : Type 0} (t : X → Bool) where
           (cases_Bool (t y))
 
   -- where none passes
-  pub last_none : (xs : List X) → last t xs ≡ None → All (λ y. t y ≡ false) xs
+  pub last_none : (xs : List X) → last t xs ≡ None → AllByRecursion (λ y. t y ≡ false) xs
   last_none [] h = tt
   last_none (y ∷ ys) h = let p = no_last y ys h in (p.0, last_none ys p.1)
 
-  pub first-none : (xs : List X) → first t xs ≡ None → All (λ y. t y ≡ false) xs
+  pub first-none : (xs : List X) → first t xs ≡ None → AllByRecursion (λ y. t y ≡ false) xs
   first-none [] h = tt
   first-none (y ∷ ys) h =
       ⊎_elim
@@ -71,11 +71,11 @@ module _ {X : Type 0} (t : X → Bool) where
       (λ b. (b, first-none ys (sym (cond-false (t y) (Some y) (first t ys) b) ∙ h)))
       (cases_Bool (t y))
 
-  pub none_last : (xs : List X) → All (λ y. t y ≡ false) xs → last t xs ≡ None
+  pub none_last : (xs : List X) → AllByRecursion (λ y. t y ≡ false) xs → last t xs ≡ None
   none_last [] a = refl
   none_last (y ∷ ys) a = ap (λ o. later o (cond (t y) (Some y) None)) (none_last ys a.1) ∙ cond-false (t y) (Some y) None a.0
 
-  pub none_first : (xs : List X) → All (λ y. t y ≡ false) xs → first t xs ≡ None
+  pub none_first : (xs : List X) → AllByRecursion (λ y. t y ≡ false) xs → first t xs ≡ None
   none_first [] a = refl
   none_first (y ∷ ys) a = cond-false (t y) (Some y) (first t ys) a.0 ∙ none_first ys a.1
 
@@ -141,7 +141,7 @@ module _ {X : Type 0} (t : X → Bool) where
 
   -- of rising rows, every other that passes comes before the last, and after the first
   module _ (rank : X → List ℕ) where
-    pub last_rising : (xs : List X) (x : X) → Rises rank xs → last t xs ≡ Some x → All (λ y. t y ≡ true → (y ≡ x) ⊎ (before (rank y) (rank x) ≡ true)) xs
+    pub last_rising : (xs : List X) (x : X) → Rises rank xs → last t xs ≡ Some x → AllByRecursion (λ y. t y ≡ true → (y ≡ x) ⊎ (before (rank y) (rank x) ≡ true)) xs
     last_rising [] x r h = tt
     last_rising (y ∷ ys) x r h =
         let p = pairwise_cons (λ a b. before (rank a) (rank b)) y ys r in
@@ -149,7 +149,7 @@ module _ {X : Type 0} (t : X → Bool) where
         (λ e. (λ _. inr (all-has (λ z. before (rank y) (rank z) ≡ true) ys x p.0 (last_member ys x e)), last_rising ys x p.1 e))
         (λ n b e. (λ _. inl e, All-weaker (λ z. t z ≡ false) (λ z. t z ≡ true → (z ≡ x) ⊎ (before (rank z) (rank x) ≡ true)) (λ z f u. absurd (both_ways (t z) f u)) ys (last_none ys n)))
 
-    pub first_rising : (xs : List X) (x : X) → Rises rank xs → first t xs ≡ Some x → All (λ y. t y ≡ true → (y ≡ x) ⊎ (before (rank x) (rank y) ≡ true)) xs
+    pub first_rising : (xs : List X) (x : X) → Rises rank xs → first t xs ≡ Some x → AllByRecursion (λ y. t y ≡ true → (y ≡ x) ⊎ (before (rank x) (rank y) ≡ true)) xs
     first_rising [] x r h = tt
     first_rising (y ∷ ys) x r h =
         let p = pairwise_cons (λ a b. before (rank a) (rank b)) y ys r in

@@ -1,8 +1,8 @@
 -- The procedures of a module, one kept record after the other. Assumes nothing.
-use Rattle.std.proofs.Common.{◌≡◌, ℕ, ◌+◌, ◌<◌, ◌≤◌, Bool, true, false, cond, ltb, ◌⊎◌, List, [], ◌∷◌, ◌++◌, map, length, drop, Some, None, Ok, Err, fold, Option, Result, sym, refl, ap, ◌∙◌, subst, ⊎_elim, arith}
+use Rattle.std.proofs.Common.{◌≡◌, ℕ, ◌+◌, ◌≤◌, true, false, cond, ltb, List, [], ◌∷◌, ◌++◌, map, length, drop, Some, None, Ok, Err, fold, Option, Result, sym, refl, ap, ◌∙◌, subst, ⊎_elim, arith}
 use Rattle.std.proofs.lemmas.List.{drop_all, length-map}
 use Rattle.std.proofs.lemmas.List.Sums.{fold_push}
-use Rattle.std.proofs.lemmas.Bool.{both_ways, cases_Bool, cond-true, cond-false, ltb-false}
+use Rattle.std.proofs.lemmas.Bool.{cases_Bool, cond-true, cond-false, ltb-false}
 use Rattle.std.specs.Option.{option_map}
 use Rattle.std.specs.List.{slice_get}
 use Rattle.order.specs.declared.Meeting.{Meeting}
@@ -20,15 +20,15 @@ use Rattle.base.specs.declared.refusal.Refusal.TheVariants.{ProcedureOutside, To
 use Rattle.building.specs.Starts.{or_else}
 use Rattle.building.specs.Outcome.{top}
 use Rattle.building.proofs.Items.{item_drop}
-use Rattle.provider.specs.Modules.{Module, Content, absent, broken, present}
+use Rattle.provider.specs.Modules.{Content, absent, broken, present}
 use Rattle.provider.specs.declared.symbols.SymbolRecord.{SymbolRecord}
 use Rattle.procedures.specs.Rows.{procedure_rank, procedure_meets, parent_rank, parent_meets}
 use Rattle.procedures.specs.declared.row.Procedure.{Procedure}
 use Rattle.procedures.specs.declared.row.Parent.{Parent}
-use Rattle.lookup.specs.Reading.{most_procedures, unless_empty, starts_at, adopted, kept, in_order, procedure_refusal, unless_refused, with_kept, all_kept, informed, ended, reading}
+use Rattle.lookup.specs.Reading.{most_procedures, starts_at, adopted, kept, in_order, procedure_refusal, unless_refused, with_kept, all_kept, ended, reading}
 use Rattle.lookup.specs.Keeping.{parent_of, parents, adopted_by}
 use Rattle.lookup.specs.Laws.{FirstsInOrder}
-use Rattle.lookup.proofs.Choosing.{some_is, none-some, later-none}
+use Rattle.lookup.proofs.Choosing.{later-none}
 
 -- rows placed one after the other, each made of an item
 module _ {X R : Type 0} (rank : R → List ℕ) (meets : R → R → Meeting) (row : X → R) where

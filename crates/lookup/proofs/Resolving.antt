@@ -1,5 +1,5 @@
 -- What a lookup and a comparison come to, by what their steps answer. Assumes nothing.
-use Rattle.std.proofs.Common.{◌≡◌, ℕ, suc, ◌+◌, ◌<◌, ◌≤◌, min, List, [], ◌∷◌, ◌++◌, map, length, get_or, take, drop, set, Some, None, Ok, Err, Option, Result, sym, refl, ap, ◌∙◌, ap₂, ⊎_elim, append_assoc, arith}
+use Rattle.std.proofs.Common.{◌≡◌, ℕ, suc, ◌+◌, ◌<◌, min, List, [], ◌∷◌, ◌++◌, map, length, get_or, take, drop, set, Some, None, Ok, Err, Option, Result, sym, ap, ◌∙◌, ap₂, ⊎_elim, append_assoc, arith}
 use Rattle.std.proofs.lemmas.List.{drop_all, take_at, drop_at, drop-drop, set_split, take_more, map_push, length-map, length-append, length-drop, length-take-le}
 use Rattle.std.proofs.lemmas.Bool.{cases_lt}
 use Rattle.base.specs.declared.refusal.Refusal.{Refusal}

@@ -1,5 +1,5 @@
 -- The function of an address. Assumes nothing.
-use Rattle.std.specs.Prelude.{ℕ, ◌+◌, Bool, true, false, cond, not, ◌&&◌, List, Some, None, Ok, Err, Option, Result, ◌==◌, nat_eq, nat_le, nat_lt}
+use Rattle.std.specs.Prelude.{ℕ, ◌+◌, Bool, false, cond, not, ◌&&◌, List, Some, None, Ok, Err, Option, Result, ◌==◌, nat_eq, nat_le, nat_lt}
 use Rattle.std.specs.List.{slice_get}
 use Rattle.order.specs.Rank.{first, last, at, inside}
 use Rattle.base.specs.Rows.{offset_rank, start_rank}
@@ -15,7 +15,7 @@ use Rattle.procedures.specs.declared.function.Location.{Location}
 use Rattle.procedures.specs.declared.function.Function.{Function}
 use Rattle.procedures.specs.declared.name.NameRow.{NameRow}
 use Rattle.procedures.specs.declared.name.NameRow.TheVariants.{None as NoName, Raw, Typed}
-use Rattle.lookup.specs.Reading.{Shelved, Wanted, shelve}
+use Rattle.lookup.specs.Reading.{Shelved, shelve}
 use Rattle.lookup.specs.Places.{locate}
 
 -- a procedure contains a place of its own section only

@@ -1,5 +1,5 @@
 -- What is promised of lookup, in other words. Assumes nothing.
-use Rattle.std.specs.Prelude.{◌≡◌, ℕ, ◌≤◌, Bool, true, false, ◌&&◌, ◌||◌, ◌⊎◌, ◌↔◌, List, [], ◌∷◌, Some, None, Ok, Err, Option, Result, ◌==◌, nat_le, nat_lt}
+use Rattle.std.specs.Prelude.{◌≡◌, ℕ, ◌≤◌, Bool, true, ◌&&◌, ◌||◌, ◌⊎◌, ◌↔◌, List, [], ◌∷◌, Some, None, Ok, Option, Result, ◌==◌, nat_le, nat_lt}
 use Rattle.order.specs.Rank.{Rises, first, at, before}
 use Rattle.base.specs.Rows.{offset_rank}
 use Rattle.base.specs.declared.image.SectionOffset.{SectionOffset}
@@ -13,7 +13,7 @@ use Rattle.procedures.specs.declared.function.Location.{Location}
 use Rattle.procedures.specs.declared.function.Function.{Function}
 use Rattle.lookup.specs.Reading.{Shelved, empty_shelf, shelve, in_order}
 use Rattle.lookup.specs.Places.{locate}
-use Rattle.lookup.specs.Finding.{Found, chosen, covers, find_function}
+use Rattle.lookup.specs.Finding.{chosen, covers, find_function}
 
 -- the procedures of a module in other words: they rise, and at each offset stands the first that was kept
 abbrev pub FirstsInOrder : List Procedure → Type 0

@@ -5,7 +5,7 @@ use Rattle.std.proofs.lemmas.List.{length-take}
 use Rattle.std.proofs.lemmas.Option.{slice_get_past}
 use Rattle.std.proofs.ByRecursion.{All-take, All-drop, All-weaker}
 use Rattle.std.specs.Option.{option_or}
-use Rattle.std.specs.List.{AllByRecursion as All, slice_get}
+use Rattle.std.specs.List.{AllByRecursion, slice_get}
 use Rattle.order.specs.Rank.{before, same, first, Rises}
 use Rattle.order.proofs.Ranks.{before_trans}
 use Rattle.order.proofs.Rows.{pairwise_cons, pairwise_from, in_order_from_rises}
@@ -44,7 +44,7 @@ first_test : {X : Type 0} (b : Bool) (o : Option X) (x : X) → cond b (Some x) 
 first_test true o x h = some-none x h
 first_test false o x h = (refl, h)
 
-all_within : {X : Type 0} (within : ℕ → X → Bool) (table : RowTable) (long k : ℕ) (xs : List X) → outside within table long k xs ≡ None → All (λ x. within long x ≡ true) xs
+all_within : {X : Type 0} (within : ℕ → X → Bool) (table : RowTable) (long k : ℕ) (xs : List X) → outside within table long k xs ≡ None → AllByRecursion (λ x. within long x ≡ true) xs
 all_within within table long k [] h = tt
 all_within within table long k (x ∷ xs) h =
     let p = test_none (within long x) (outside within table long (k + 1) xs) _ h in
@@ -106,8 +106,8 @@ good_at t k (n ∷ ms) h (suc j) m e =
 -- what the tables hold if no row is bad
 pub record GoodRows (t : ModuleRows) : Type 0 where
   pub few : length t.modules.now ≤ 65536
-  pub site_lists : All (λ l. rows_within (length t.site_rows.now) l.rows ≡ true) t.site_lists.now
-  pub line_lists : All (λ l. rows_within (length t.line_rows.now) l.rows ≡ true) t.line_lists.now
+  pub site_lists : AllByRecursion (λ l. rows_within (length t.site_rows.now) l.rows ≡ true) t.site_lists.now
+  pub line_lists : AllByRecursion (λ l. rows_within (length t.line_rows.now) l.rows ≡ true) t.line_lists.now
   pub each : (k : ℕ) (m : ModuleRow) → slice_get t.modules.now k ≡ Some m → GoodModule t m
 
 pub good_rows : (text : List ℕ) (t : ModuleRows) → bad_row text t ≡ None → GoodRows t
@@ -128,7 +128,7 @@ nothing_regular : RegularModule nothing
 nothing_regular = record { rises = refl; few_symbols = lit< tt; few_site_rows = λ site start. lit< tt; few_line_rows = λ start. lit< tt }
 
 -- what holds of all rows holds of the one that is found
-found_all : {X : Type 0} (P : X → Type 0) (test : X → Bool) (xs : List X) (x : X) → All P xs → first test xs ≡ Some x → P x
+found_all : {X : Type 0} (P : X → Type 0) (test : X → Bool) (xs : List X) (x : X) → AllByRecursion P xs → first test xs ≡ Some x → P x
 found_all P test [] x a e = some-none x (sym e)
 found_all P test (y ∷ ys) x a e =
     ⊎_elim
@@ -136,7 +136,7 @@ found_all P test (y ∷ ys) x a e =
     (λ b. found_all P test ys x a.1 (sym (cond-false (test y) (Some y) (first test ys) b) ∙ e))
     (cases_Bool (test y))
 
-part_all : {X : Type 0} (P : X → Type 0) (xs : List X) (r : RowRange) → All P xs → All P (part xs r)
+part_all : {X : Type 0} (P : X → Type 0) (xs : List X) (r : RowRange) → AllByRecursion P xs → AllByRecursion P (part xs r)
 part_all P xs r a = All-take P r.count (drop r.first xs) (All-drop P r.first xs a)
 
 few_site_rows : (t : ModuleRows) (o : Option SiteList) → ((l : SiteList) → o ≡ Some l → rows_within (length t.site_rows.now) l.rows ≡ true) → length (site_rows_of t o).items < 2 ^ 32

@@ -2,26 +2,26 @@
 use Rattle.std.proofs.Common.{◌≡◌, ℕ, zero, suc, ◌+◌, ◌<◌, ◌≤◌, Bool, true, false, cond, not, List, [], ◌∷◌, ◌++◌, length, get_or, take, drop, is_some, Some, None, Option, sym, refl, ap, ◌∙◌, subst, ⊎_elim, arith}
 use Rattle.std.proofs.lemmas.Bool.{both_ways, cases_Bool, cond-true, cond-false, not-true, and_parts, and_from}
 use Rattle.std.proofs.ByRecursion.{All-get_or, All-weaker}
-use Rattle.std.specs.List.{AllByRecursion as All}
+use Rattle.std.specs.List.{AllByRecursion}
 use Rattle.order.specs.declared.Meeting.{Meeting}
 use Rattle.order.specs.declared.Meeting.TheVariants.{Stays, GivesWay, Both}
 use Rattle.order.specs.Rank.{before, same, every, pairwise, Pairwise, InOrder, Rises, at, tally}
 use Rattle.order.specs.Placed.{met, placed}
 use Rattle.order.proofs.Ranks.{before_irrefl, before_asym, same_refl, same_eq, before_not_same, not_before, upto_before, before-upto}
 
-every_all : {X : Type 0} (test : X → Bool) (xs : List X) → every test xs ≡ true → All (λ y. test y ≡ true) xs
+every_all : {X : Type 0} (test : X → Bool) (xs : List X) → every test xs ≡ true → AllByRecursion (λ y. test y ≡ true) xs
 every_all test [] h = tt
 every_all test (x ∷ xs) h = let p = and_parts (test x) (every test xs) h in (p.0, every_all test xs p.1)
 
-all_every : {X : Type 0} (test : X → Bool) (xs : List X) → All (λ y. test y ≡ true) xs → every test xs ≡ true
+all_every : {X : Type 0} (test : X → Bool) (xs : List X) → AllByRecursion (λ y. test y ≡ true) xs → every test xs ≡ true
 all_every test [] h = refl
 all_every test (x ∷ xs) h = and_from (test x) (every test xs) h.0 (all_every test xs h.1)
 
 -- a list taken apart: its first row with each later one, and the later ones among themselves
-pub pairwise_cons : {X : Type 0} (test : X → X → Bool) (x : X) (xs : List X) → Pairwise test (x ∷ xs) → All (λ y. test x y ≡ true) xs × Pairwise test xs
+pub pairwise_cons : {X : Type 0} (test : X → X → Bool) (x : X) (xs : List X) → Pairwise test (x ∷ xs) → AllByRecursion (λ y. test x y ≡ true) xs × Pairwise test xs
 pairwise_cons test x xs h = let p = and_parts (every (test x) xs) (pairwise test xs) h in (every_all (test x) xs p.0, p.1)
 
-pub pairwise_from : {X : Type 0} (test : X → X → Bool) (x : X) (xs : List X) → All (λ y. test x y ≡ true) xs → Pairwise test xs → Pairwise test (x ∷ xs)
+pub pairwise_from : {X : Type 0} (test : X → X → Bool) (x : X) (xs : List X) → AllByRecursion (λ y. test x y ≡ true) xs → Pairwise test xs → Pairwise test (x ∷ xs)
 pairwise_from test x xs a p = and_from (every (test x) xs) (pairwise test xs) (all_every (test x) xs a) p
 
 pub pairwise-none : {X : Type 0} (test : X → X → Bool) → Pairwise test []
@@ -67,18 +67,18 @@ module _ {X : Type 0} (rank : X → List ℕ) (meets : X → X → Meeting) wher
   winner None r = r
   winner (Some x) r = elim (meets x r) [ Stays ↦ x | GivesWay ↦ r | Both ↦ r ]
 
-  pub met_all : (P : X → Type 0) (m : Meeting) (x r : X) (xs : List X) → P x → P r → All P xs → All P (met m x r xs)
+  pub met_all : (P : X → Type 0) (m : Meeting) (x r : X) (xs : List X) → P x → P r → AllByRecursion P xs → AllByRecursion P (met m x r xs)
   met_all P Stays x r xs p q a = (p, a)
   met_all P GivesWay x r xs p q a = (q, a)
   met_all P Both x r xs p q a = (q, (p, a))
 
   -- what is placed was there before, or is the new row
-  pub placed_all : (P : X → Type 0) (r : X) (xs : List X) → All P xs → P r → All P (placed rank meets r xs)
+  pub placed_all : (P : X → Type 0) (r : X) (xs : List X) → AllByRecursion P xs → P r → AllByRecursion P (placed rank meets r xs)
   placed_all P r [] a p = (p, tt)
   placed_all P r (x ∷ xs) a p =
-      elim (before (rank x) (rank r)) as (λ b. All P (cond b (x ∷ placed rank meets r xs) (cond (same (rank x) (rank r)) (met (meets x r) x r xs) (r ∷ x ∷ xs)))) [
+      elim (before (rank x) (rank r)) as (λ b. AllByRecursion P (cond b (x ∷ placed rank meets r xs) (cond (same (rank x) (rank r)) (met (meets x r) x r xs) (r ∷ x ∷ xs)))) [
         | true ↦ (a.0, placed_all P r xs a.1 p)
-        | false ↦ elim (same (rank x) (rank r)) as (λ s. All P (cond s (met (meets x r) x r xs) (r ∷ x ∷ xs))) [
+        | false ↦ elim (same (rank x) (rank r)) as (λ s. AllByRecursion P (cond s (met (meets x r) x r xs) (r ∷ x ∷ xs))) [
           | true ↦ met_all P (meets x r) x r xs a.0 p a.1
           | false ↦ (p, a)
         ]
@@ -99,13 +99,13 @@ module _ {X : Type 0} (rank : X → List ℕ) (meets : X → X → Meeting) wher
   Before x y = before (rank x) (rank y)
 
   -- rows after x are after r too, where r's rank is no greater
-  upto_all : (r x : X) (xs : List X) → before (rank x) (rank r) ≡ false → All (λ y. Upto x y ≡ true) xs → All (λ y. Upto r y ≡ true) xs
+  upto_all : (r x : X) (xs : List X) → before (rank x) (rank r) ≡ false → AllByRecursion (λ y. Upto x y ≡ true) xs → AllByRecursion (λ y. Upto r y ≡ true) xs
   upto_all r x xs b a =
       All-weaker (λ y. Upto x y ≡ true) (λ y. Upto r y ≡ true)
       (λ y u. ⊎_elim (λ k. absurd (both_ways _ (not-true _ u) (before-upto (rank y) (rank r) (rank x) k b))) (λ k. not_is _ k) (cases_Bool (before (rank y) (rank r))))
       xs a
 
-  before_all : (r x : X) (xs : List X) → before (rank x) (rank r) ≡ false → All (λ y. Before x y ≡ true) xs → All (λ y. Before r y ≡ true) xs
+  before_all : (r x : X) (xs : List X) → before (rank x) (rank r) ≡ false → AllByRecursion (λ y. Before x y ≡ true) xs → AllByRecursion (λ y. Before r y ≡ true) xs
   before_all r x xs b a = All-weaker (λ y. Before x y ≡ true) (λ y. Before r y ≡ true) (λ y u. upto_before (rank r) (rank x) (rank y) b u) xs a
 
   not_before_self : (a b : List ℕ) → a ≡ b → before a b ≡ false
@@ -145,7 +145,7 @@ module _ {X : Type 0} (rank : X → List ℕ) (meets : X → X → Meeting) wher
       (λ b e. subst (Rises rank) (sym e) (pairwise_from Before r (x ∷ xs) (b, before_all r x xs (before_asym (rank r) (rank x) b) p.0) h))
 
   -- after r there is no row of r's rank
-  pub at_none : (r : X) (xs : List X) → All (λ y. Before r y ≡ true) xs → at rank (rank r) xs ≡ None
+  pub at_none : (r : X) (xs : List X) → AllByRecursion (λ y. Before r y ≡ true) xs → at rank (rank r) xs ≡ None
   at_none r [] a = refl
   at_none r (y ∷ ys) a =
       let n : same (rank y) (rank r) ≡ false = same_flip (rank r) (rank y) (before_not_same (rank r) (rank y) a.0) in
@@ -185,7 +185,7 @@ module _ {X : Type 0} (rank : X → List ℕ) (meets : X → X → Meeting) wher
         | Both ↦ cond-true _ _ _ (same_refl (rank r))
       ]) ∙ ap (λ o. Some (winner o r)) (sym here))
       (λ b e.
-      let a : All (λ y. Before r y ≡ true) (x ∷ xs) = (b, before_all r x xs (before_asym (rank r) (rank x) b) p.0) in
+      let a : AllByRecursion (λ y. Before r y ≡ true) (x ∷ xs) = (b, before_all r x xs (before_asym (rank r) (rank x) b) p.0) in
       ap (at rank (rank r)) e ∙ cond-true _ _ _ (same_refl (rank r)) ∙ ap (λ o. Some (winner o r)) (sym (at_none r (x ∷ xs) a)))
 
   -- one row more where r's rank is new, and else none
@@ -210,7 +210,7 @@ module _ {X : Type 0} (rank : X → List ℕ) (meets : X → X → Meeting) wher
         | Both ↦ λ no'. absurd (no' refl)
       ]) (one x r)) ∙ zero_plus _ ∙ ap (λ o. cond (is_some o) 0 1 + suc (length xs)) (sym here))
       (λ b e.
-      let a : All (λ y. Before r y ≡ true) (x ∷ xs) = (b, before_all r x xs (before_asym (rank r) (rank x) b) p.0) in
+      let a : AllByRecursion (λ y. Before r y ≡ true) (x ∷ xs) = (b, before_all r x xs (before_asym (rank r) (rank x) b) p.0) in
       ap length e ∙ one_plus _ ∙ ap (λ o. cond (is_some o) 0 1 + suc (length xs)) (sym (at_none r (x ∷ xs) a)))
 
   -- where equals all stand, there is always one row more

@@ -2,7 +2,7 @@
 use Rattle.std.proofs.Common.{◌≡◌, ℕ, suc, true, false, cond, not, List, [], ◌∷◌, Some, None, Option, sym, refl, ap, ◌∙◌, subst, ⊎_elim, arith}
 use Rattle.std.proofs.lemmas.Bool.{cases_Bool, cond-true, cond-false, not-true}
 use Rattle.std.proofs.ByRecursion.{All-weaker}
-use Rattle.std.specs.List.{AllByRecursion as All}
+use Rattle.std.specs.List.{AllByRecursion}
 use Rattle.order.specs.declared.Meeting.TheVariants.{Stays}
 use Rattle.order.specs.Rank.{before, same, InOrder, Rises, at, tally}
 use Rattle.order.proofs.Ranks.{before_trans, same_refl, same_eq, before_not_same, before-upto, cases_rank}
@@ -16,7 +16,7 @@ some_same x y o p q = cc
 
 module _ {X : Type 0} (rank : X → List ℕ) where
   abbrev After : X → List X → Type 0
-  After r xs = All (λ y. before (rank r) (rank y) ≡ true) xs
+  After r xs = AllByRecursion (λ y. before (rank r) (rank y) ≡ true) xs
 
   here : (x : X) (xs : List X) → at rank (rank x) (x ∷ xs) ≡ Some x
   here x xs = cond-true _ _ _ (same_refl (rank x))
@@ -67,7 +67,7 @@ module _ {X : Type 0} (rank : X → List ℕ) where
   tally_here : (x : X) (xs : List X) → tally rank (rank x) (x ∷ xs) ≡ suc (tally rank (rank x) xs)
   tally_here x xs = let c : ◌≡◌ {A = ℕ} (cond (same (rank x) (rank x)) 1 0) 1 = cond-true _ _ _ (same_refl (rank x)) in omega arith
 
-  upto-after : (r x : X) (xs : List X) → before (rank r) (rank x) ≡ true → All (λ y. not (before (rank y) (rank x)) ≡ true) xs → After r xs
+  upto-after : (r x : X) (xs : List X) → before (rank r) (rank x) ≡ true → AllByRecursion (λ y. not (before (rank y) (rank x)) ≡ true) xs → After r xs
   upto-after r x xs b a =
       All-weaker (λ y. not (before (rank y) (rank x)) ≡ true) (λ y. before (rank r) (rank y) ≡ true) (λ y u. before-upto (rank r) (rank x) (rank y) b (not-true _ u)) xs a
 

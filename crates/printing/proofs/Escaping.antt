@@ -1,12 +1,12 @@
 -- What is written within quotes is read again. Assumes nothing.
-use Rattle.std.proofs.Common.{◌≡◌, ℕ, ◌+◌, ◌*◌, ◌/◌, ◌%◌, ◌<◌, ◌≤◌, Bool, true, false, cond, eqb, ltb, List, [], ◌∷◌, ◌++◌, length, get_or, drop, is_ok, IfOk, Some, None, Ok, Err, Option, Result, sym, refl, ap, ◌∙◌, append_assoc, append-nil, arith}
+use Rattle.std.proofs.Common.{◌≡◌, ℕ, ◌+◌, ◌*◌, ◌/◌, ◌%◌, ◌<◌, ◌≤◌, true, false, eqb, ltb, List, [], ◌∷◌, ◌++◌, length, get_or, drop, is_ok, IfOk, Some, None, Ok, Err, Option, Result, sym, refl, ap, ◌∙◌, append_assoc, append-nil, arith}
 use Rattle.std.proofs.lemmas.List.{at_drop_more, at_drop_all}
 use Rattle.std.proofs.lemmas.Bool.{cond_both, eqb-true, eqb-false, ne_eqb}
 use Rattle.std.proofs.lemmas.Bool.Decides.{nat_tests}
 use Rattle.std.specs.Option.{option_map}
-use Rattle.std.specs.Char.{digit_char, digit_value}
-use Rattle.std.specs.List.{AllByRecursion as All}
-use Rattle.words.specs.declared.quote.Place.TheVariants.{Plain, Slash, High, Low}
+use Rattle.std.specs.Char.{digit_char}
+use Rattle.std.specs.List.{AllByRecursion}
+use Rattle.words.specs.declared.quote.Place.TheVariants.{Plain, Low}
 use Rattle.words.specs.Quotes.{hex_digit, stepped, put, after_step, from_place, unquoted}
 use Rattle.printing.specs.Escaped.{hex_written, written, escaped}
 
@@ -53,7 +53,7 @@ byte_again b rest small =
     (λ e. cond_both (ltb b 32) _ _ P (λ _. hex_again b rest small)
     (λ _. cond_both (ltb b 127) _ _ P (λ _. plain_again b rest (eqb-false b 92 e)) (λ _. hex_again b rest small))))
 
-pub read_again : (bs : List ℕ) → All (λ b. b < 256) bs → unquoted (escaped bs) ≡ Some bs
+pub read_again : (bs : List ℕ) → AllByRecursion (λ b. b < 256) bs → unquoted (escaped bs) ≡ Some bs
 read_again [] h = refl
 read_again (b ∷ bs) h = byte_again b (escaped bs) h.0 ∙ ap (option_map (put (Some b))) (read_again bs h.1)
 

@@ -1,5 +1,5 @@
 -- What a resolver answers, by its image, its modules, the context and the shelf. Assumes nothing.
-use Rattle.std.specs.Prelude.{ℕ, List}
+use Rattle.std.specs.Prelude.{ℕ}
 use Rattle.image.specs.Image.{Image}
 use Rattle.provider.specs.Modules.{Modules}
 use Rattle.context.specs.Context.{meaning}

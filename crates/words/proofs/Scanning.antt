@@ -1,10 +1,10 @@
 -- What stands in front of a line, found byte by byte. Assumes nothing.
-use Rattle.std.proofs.Common.{◌≡◌, ℕ, ◌+◌, ◌-◌, ◌<◌, ◌≤◌, Bool, true, false, cond, not, ◌&&◌, eqb, List, [], ◌∷◌, length, get_or, take, drop, Some, None, Option, sym, refl, ap, ◌∙◌, ap₂, add-zero, add_assoc, zero-add, arith}
+use Rattle.std.proofs.Common.{◌≡◌, ℕ, ◌+◌, ◌-◌, ◌<◌, ◌≤◌, Bool, true, false, eqb, List, [], ◌∷◌, length, get_or, take, drop, Some, None, Option, sym, refl, ap, ◌∙◌, ap₂, add-zero, add_assoc, zero-add, arith}
 use Rattle.std.proofs.lemmas.List.{at_drop_more, at_drop_all, take_rest}
 use Rattle.std.proofs.lemmas.Bool.{eq-eqb, ne_eqb}
 use Rattle.std.specs.Option.{option_map}
 use Rattle.words.specs.declared.scan.Front.TheVariants.{Blank, Plain}
-use Rattle.words.specs.Lines.{of_front, front_length, before_quote, Next, plain, quoted, nothing, cut_off, quoted_next, plain_next, first_next, next_of}
+use Rattle.words.specs.Lines.{of_front, front_length, before_quote, plain, quoted, nothing, cut_off, quoted_next, plain_next, first_next, next_of}
 
 -- the first i bytes pass the test
 abbrev pub Passed : (ℕ → Bool) → List ℕ → ℕ → Type 0

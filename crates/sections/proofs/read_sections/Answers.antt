@@ -1,4 +1,4 @@
-use Rattle.std.proofs.Common.{◌≡◌, ◌+◌, ◌<◌, ltb, leb, length, set, Some, None, sym, refl, ap, ◌∙◌, arith, length-set, rules}
+use Rattle.std.proofs.Common.{◌≡◌, ◌+◌, ◌<◌, ltb, leb, length, Some, None, sym, refl, ◌∙◌, arith, length-set, rules}
 use Rattle.std.specs.List.{slice_get}
 use Rattle.base.specs.declared.refusal.Refusal.TheVariants.{SectionOutside}
 use Rattle.building.specs.Outcome.{top, most_sections, section_refusal}

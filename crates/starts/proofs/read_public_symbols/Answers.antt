@@ -1,22 +1,17 @@
-use Rattle.std.proofs.Common.{◌≡◌, ℕ, ◌+◌, ◌^◌, ◌<◌, ◌≤◌, true, false, List, [], ◌∷◌, ◌++◌, length, take, drop, is_ok, Some, None, Ok, Err, Option, Result, sym, refl, ap, ◌∙◌, subst, arith}
+use Rattle.std.proofs.Common.{◌≡◌, ◌+◌, ◌^◌, ◌<◌, true, false, length, take, Some, sym, refl, ap, ◌∙◌, subst, arith}
 use Rattle.std.specs.List.{slice_get}
 use Rattle.std.specs.Result.{result_err}
 use Rattle.std.proofs.lemmas.Result.{err_from_is_err_and}
-use Rattle.base.specs.declared.context.KnownStart.{KnownStart}
-use Rattle.base.specs.declared.image.PublicSymbol.{PublicSymbol}
-use Rattle.base.specs.declared.image.Section.{Section}
-use Rattle.base.specs.declared.refusal.Refusal.{Refusal}
 use Rattle.base.specs.declared.refusal.Refusal.TheVariants.{StartTableFull}
 use Rattle.base.specs.declared.refusal.Step.TheVariants.{ReadPublicSymbols}
-use Rattle.building.specs.Starts.{executable, named_start, symbol_starts, offset_count}
+use Rattle.building.specs.Starts.{executable, symbol_starts}
 use Rattle.base.specs.declared.refusal.FaultyList.TheVariants.{PublicSymbols}
 use Rattle.building.specs.Outcome.{fault}
 use Rattle.building.specs.Filling.{Holds}
 use Rattle.building.proofs.Items.{item_within, entry_item, entry_end, end_take}
-use Rattle.building.proofs.Outcomes.{or_some, or_none, never_ok}
+use Rattle.building.proofs.Outcomes.{or_none, never_ok}
 use Rattle.building.proofs.Symbols.{symbol_kept, symbol_skipped, symbol_full, holds-room}
 use Rattle.sections.specs.Used.{used}
-use Rattle.starts.proofs.read_public_symbols.Given as given
 use Rattle.starts.proofs.read_public_symbols.Goals as goal
 use Rattle.starts.proofs.read_public_symbols.Goals.{then-executable+in_ok-add_start-in-Item, else-executable}
 

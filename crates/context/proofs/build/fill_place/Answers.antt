@@ -1,14 +1,10 @@
-use Rattle.std.proofs.Common.{◌≡◌, ℕ, ◌-◌, List, [], length, take, filter, sym, refl, ap, ◌∙◌, subst, arith}
+use Rattle.std.proofs.Common.{◌≡◌, ◌-◌, length, take, filter, refl, ap, ◌∙◌, arith}
 use Rattle.base.specs.Rows.{named}
-use Rattle.base.specs.declared.context.KnownStart.{KnownStart}
-use Rattle.base.specs.declared.context.Contribution.{Contribution}
-use Rattle.building.specs.Filling.{Holds, Filed}
 use Rattle.building.proofs.Filling.{holds_start, filed_start}
 use Rattle.building.specs.Outcome.{all_kept}
 use Rattle.building.proofs.Outcomes.{filled-outcome, one_outcome}
 use Rattle.building.proofs.Runs.{blocks_are_runs}
 use Rattle.sections.specs.Used.{used}
-use Rattle.context.proofs.build.fill_place.Given as given
 use Rattle.context.proofs.build.fill_place.Goals as goal
 
 pub slice_bounds-count_named-end : goal.slice_bounds-count_named-end

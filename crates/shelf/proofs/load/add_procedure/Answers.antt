@@ -1,8 +1,6 @@
-use Rattle.std.proofs.Common.{◌≡◌, ℕ, false, Some, None, sym, refl, ◌∙◌, subst, arith}
+use Rattle.std.proofs.Common.{◌≡◌, ℕ, Some, None, sym, refl, subst, arith}
 use Rattle.order.specs.Placed.{Settled}
 use Rattle.procedures.specs.Rows.{parent_rank, parent_meets}
-use Rattle.procedures.specs.declared.row.Procedure.{Procedure}
-use Rattle.lookup.specs.Keeping.{Holds, parent_of}
 use Rattle.lookup.proofs.Keeping.{held_in_order, parents-in_order, no_room, room, parent_room, holds_more, refused-outside, refused-many, refused_not}
 use Rattle.shelf.proofs.load.add_procedure.Goals as goal
 

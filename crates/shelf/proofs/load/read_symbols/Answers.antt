@@ -1,12 +1,10 @@
-use Rattle.std.proofs.Common.{◌≡◌, ℕ, ◌+◌, ◌-◌, ◌^◌, ◌<◌, ◌≤◌, [], length, Some, None, Ok, Err, sym, refl, ap, ◌∙◌, subst, subst₂, arith}
+use Rattle.std.proofs.Common.{◌≡◌, ◌+◌, ◌^◌, ◌<◌, [], length, Some, sym, refl, ap, ◌∙◌, subst, subst₂, arith}
 use Rattle.std.specs.List.{slice_get}
-use Rattle.std.specs.Result.{result_err}
 use Rattle.std.proofs.lemmas.Result.{err_from_is_err_and}
 use Rattle.building.proofs.Items.{item_within, entry_item, entry_end}
 use Rattle.provider.specs.Modules.{content}
 use Rattle.lookup.specs.Keeping.{Read}
 use Rattle.lookup.proofs.Keeping.{Progress, progress_ended, progress_skipped, progress_kept, progress_refused, none_from}
-use Rattle.shelf.proofs.load.read_symbols.Given as given
 use Rattle.shelf.proofs.load.read_symbols.Goals as goal
 use Rattle.shelf.proofs.load.read_symbols.Goals.{in-Some+in_ok-add_procedure-in-Item, in_default}
 

@@ -1,12 +1,11 @@
-use Rattle.std.proofs.Common.{◌≡◌, ℕ, true, false, eqb, ◌⊎◌, List, [], ◌∷◌, ◌++◌, is_ok, Some, None, Ok, Err, Result, sym, refl, ap, ◌∙◌, subst, ⊎_elim, arith}
+use Rattle.std.proofs.Common.{◌≡◌, true, false, eqb, ◌⊎◌, [], ◌∷◌, ◌++◌, Some, Err, Result, sym, refl, ap, ◌∙◌, subst, ⊎_elim}
 use Rattle.std.specs.Result.{result_err}
 use Rattle.std.proofs.lemmas.Result.{IfOk-weaker, err_from_is_err_and}
 use Rattle.std.proofs.lemmas.Bool.{eq-eqb, ne_eqb, and_from, and_left, and_right}
-use Rattle.base.specs.declared.context.KnownStart.{KnownStart}
 use Rattle.base.specs.declared.context.Contribution.{Contribution}
 use Rattle.base.specs.declared.image.SectionContribution.{SectionContribution}
 use Rattle.base.specs.declared.refusal.Refusal.{Refusal}
-use Rattle.building.specs.Blocks.{block, joins, grown, blocks}
+use Rattle.building.specs.Blocks.{block, joins, grown}
 use Rattle.building.specs.Filling.{Reading}
 use Rattle.building.proofs.Outcomes.{none_made}
 use Rattle.building.proofs.Reading.{made_since, first-refused, first_read, later_full, later_no_room, later_opened, later_joined, joined_start, joined_read, opened_read}

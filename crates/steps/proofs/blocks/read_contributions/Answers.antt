@@ -1,4 +1,4 @@
-use Rattle.std.proofs.Common.{◌≡◌, ℕ, ◌+◌, ◌^◌, ◌<◌, ◌≤◌, true, false, List, [], ◌∷◌, ◌++◌, length, take, drop, is_ok, Some, None, Ok, Err, Option, Result, sym, refl, ap, ◌∙◌, subst, arith}
+use Rattle.std.proofs.Common.{◌≡◌, ◌^◌, ◌<◌, true, false, List, [], length, take, Some, Option, sym, refl, ap, ◌∙◌, subst, arith}
 use Rattle.std.specs.List.{slice_get}
 use Rattle.std.specs.Result.{result_err}
 use Rattle.std.proofs.lemmas.Result.{err_from_is_err_and}
@@ -6,17 +6,15 @@ use Rattle.table.specs.declared.Table.{Table}
 use Rattle.base.specs.declared.image.SectionContribution.{SectionContribution}
 use Rattle.base.specs.declared.context.KnownStart.{KnownStart}
 use Rattle.base.specs.declared.context.Contribution.{Contribution}
-use Rattle.base.specs.declared.refusal.Refusal.{Refusal}
 use Rattle.base.specs.declared.refusal.FaultyList.TheVariants.{Contributions}
-use Rattle.building.specs.Starts.{keeps, kept, contribution_starts}
+use Rattle.building.specs.Starts.{keeps, kept}
 use Rattle.building.specs.Blocks.{blocks}
-use Rattle.building.specs.Outcome.{fault, all_symbols, all_kept, contribution_refusal, first_refusal}
-use Rattle.building.specs.Filling.{Holds, Filed, Reading, Proper}
+use Rattle.building.specs.Outcome.{fault, all_symbols, all_kept, contribution_refusal}
+use Rattle.building.specs.Filling.{Holds, Filed, Reading}
 use Rattle.building.proofs.Items.{item_within, entry_item, entry_end, end_take, refused_here, refused_on, refused_none}
 use Rattle.building.proofs.Outcomes.{or_some, or_none, never_ok}
 use Rattle.building.proofs.Reading.{reading-none, kept-more_by, counted_size, counted-refusal, kept_as_before, skipped_refusal}
 use Rattle.sections.specs.Used.{used}
-use Rattle.steps.proofs.blocks.read_contributions.Given as given
 use Rattle.steps.proofs.blocks.read_contributions.Goals as goal
 use Rattle.steps.proofs.blocks.read_contributions.Goals.{then-keeps+in_ok-block-in-Item, else-keeps}
 

@@ -1,16 +1,14 @@
-use Rattle.std.proofs.Common.{◌≡◌, ◌<◌, List, [], ◌∷◌, ◌++◌, length, take, IfErr, Some, None, Ok, Err, Result, sym, refl, ap, ◌∙◌, subst}
+use Rattle.std.proofs.Common.{◌≡◌, ◌<◌, List, [], ◌++◌, length, IfErr, Err, Result, sym, refl, ap, ◌∙◌, subst}
 use Rattle.std.proofs.lemmas.Result.{err_from_is_err_and}
 use Rattle.base.specs.declared.context.KnownStart.{KnownStart}
-use Rattle.base.specs.declared.context.Contribution.{Contribution}
 use Rattle.base.specs.declared.refusal.Refusal.{Refusal}
-use Rattle.building.specs.Starts.{symbol_starts, contribution_starts, section_ends, offset_count}
+use Rattle.building.specs.Starts.{symbol_starts, contribution_starts, section_ends}
 use Rattle.building.specs.Blocks.{blocks}
-use Rattle.building.specs.Outcome.{Outcome, all_symbols, all_kept, ends_refused}
-use Rattle.building.specs.Filling.{Holds, Filed, Proper}
+use Rattle.building.specs.Outcome.{Outcome, all_symbols, all_kept}
+use Rattle.building.specs.Filling.{Holds}
 use Rattle.building.proofs.Blocks.{apart_all, stands_all}
 use Rattle.building.proofs.Outcomes.{read-symbols, read_ends, refused-sections, refused-symbols, refused-contributions, refused_overlap, refused_ends, granted, none_made}
 use Rattle.sections.specs.Used.{used}
-use Rattle.steps.proofs.fill.fill.Given as given
 use Rattle.steps.proofs.fill.fill.Goals as goal
 
 -- a refusal that is passed on

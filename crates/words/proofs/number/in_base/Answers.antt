@@ -1,4 +1,4 @@
-use Rattle.std.proofs.Common.{◌<◌, length, sym, ap, ◌∙◌, mul-le-mul, arith}
+use Rattle.std.proofs.Common.{◌<◌, length, sym, mul-le-mul, arith}
 use Rattle.std.proofs.lemmas.Bool.{eqb-false}
 use Rattle.words.proofs.Digits.{no_digit, one_more, fits, too_large}
 use Rattle.words.proofs.number.in_base.Goals as goal

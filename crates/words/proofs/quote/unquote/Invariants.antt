@@ -1,6 +1,5 @@
-use Rattle.std.proofs.Common.{◌≡◌, ℕ, List, ◌++◌, drop, vec_items}
+use Rattle.std.proofs.Common.{drop, vec_items}
 use Rattle.words.proofs.Escapes.{Sofar}
-use Rattle.words.specs.Quotes.{Sound}
 use Rattle.words.proofs.quote.unquote.Given as goal
 
 abbrev pub invariant-loop-b : goal.invariant-loop-b

@@ -1,4 +1,4 @@
-use Rattle.std.proofs.Common.{◌≡◌, ◌+◌, ◌^◌, ◌<◌, Ok, sym, refl, ap, ◌∙◌, arith}
+use Rattle.std.proofs.Common.{◌+◌, ◌^◌, ◌<◌, Ok, sym, refl, ap, ◌∙◌, arith}
 use Rattle.context.specs.Context.{meaning}
 use Rattle.lookup.specs.Finding.{function_at}
 use Rattle.lookup.proofs.Extents.{located_address}

@@ -1,8 +1,7 @@
-use Rattle.std.proofs.Common.{◌≡◌, Ok, Err, sym, refl, ap, ◌∙◌}
+use Rattle.std.proofs.Common.{◌≡◌, Ok, Err, sym, ap, ◌∙◌}
 use Rattle.std.proofs.lemmas.Result.{err_from_is_err_and}
 use Rattle.context.specs.Context.{meaning}
-use Rattle.lookup.specs.Finding.{Found, find_function}
-use Rattle.lookup.specs.Laws.{Extents}
+use Rattle.lookup.specs.Finding.{find_function}
 use Rattle.lookup.proofs.Choosing.{starts-last}
 use Rattle.lookup.proofs.Extents.{extents}
 use Rattle.lookup.proofs.Resolving.{first-refused, second_refused, both_answered}
