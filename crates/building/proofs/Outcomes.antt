@@ -74,8 +74,8 @@ module _ (i : Image) (start_rows contribution_rows : ℕ) where
           granted h = or_none _ _ s ∙ or_none _ _ y ∙ or_none _ _ c ∙ or_none _ _ o ∙ h
 
 -- the tables after the five steps hold what building gives
-pub filled-outcome : (i : Image) (sections : List Section) (old-starts starts : List KnownStart) (start-count : ℕ) (old-rows rows : List Contribution) (row_count : ℕ) → Filled i sections old-starts starts start-count old-rows rows row_count → Outcome i (length old-starts) (length old-rows) (Ok (record { sections = sections; starts = take start-count starts; contributions = take row_count rows }))
-filled-outcome i sections old-starts starts start-count old-rows rows row_count h = (h.granted, h.same, h.starts_hold.known, h.rows_filed.stands)
+pub filled-outcome : (i : Image) (sections : List Section) (old_starts starts : List KnownStart) (start_count : ℕ) (old_rows rows : List Contribution) (row_count : ℕ) → Filled i sections old_starts starts start_count old_rows rows row_count → Outcome i (length old_starts) (length old_rows) (Ok (record { sections = sections; starts = take start_count starts; contributions = take row_count rows }))
+filled-outcome i sections old_starts starts start_count old_rows rows row_count h = (h.granted, h.same, h.starts_hold.known, h.rows_filed.stands)
 
 -- the symbols' refusal, by sections that are the image's
 pub read-symbols : (i : Image) (start_rows contribution_rows : ℕ) (sections : List Section) (o : Option Refusal) → sections ≡ i.sections → o ≡ or_else (cond (ltb start_rows (offset_count (symbol_starts sections i.symbols))) (Some (StartTableFull ReadPublicSymbols)) None) (fault PublicSymbols i.symbols_end) → o ≡ symbols_refused i start_rows contribution_rows

@@ -34,16 +34,16 @@ abbrev pub Proper : List Contribution → Type 0
 Proper bs = AllByRecursion (λ b. b.start < b.end) bs
 
 -- the contributions in cs have been read, after the starts of the public symbols; the newest block is still open
-pub record Reading (symbols : List KnownStart) (cs : List SectionContribution) (old-starts starts : List KnownStart) (start-count : ℕ) (old-rows rows : List Contribution) (row_count : ℕ) (newest : Option Contribution) : Type 0 where
-  pub starts_hold : Holds (symbols ++ contribution_starts cs) old-starts starts start-count
-  pub closed : Filed (drop 1 (blocks cs)) old-rows rows row_count
+pub record Reading (symbols : List KnownStart) (cs : List SectionContribution) (old_starts starts : List KnownStart) (start_count : ℕ) (old_rows rows : List Contribution) (row_count : ℕ) (newest : Option Contribution) : Type 0 where
+  pub starts_hold : Holds (symbols ++ contribution_starts cs) old_starts starts start_count
+  pub closed : Filed (drop 1 (blocks cs)) old_rows rows row_count
   pub open_block : newest ≡ slice_get (blocks cs) 0
   pub proper : Proper (blocks cs)
 
 -- all five steps are done, and nothing was refused
-pub record Filled (i : Image) (sections : List Section) (old-starts starts : List KnownStart) (start-count : ℕ) (old-rows rows : List Contribution) (row_count : ℕ) : Type 0 where
+pub record Filled (i : Image) (sections : List Section) (old_starts starts : List KnownStart) (start_count : ℕ) (old_rows rows : List Contribution) (row_count : ℕ) : Type 0 where
   pub same : sections ≡ i.sections
-  pub starts_hold : Holds (all_starts i) old-starts starts start-count
-  pub rows_filed : Filed (blocks (all_kept i)) old-rows rows row_count
-  pub granted : refusal i (length old-starts) (length old-rows) (take row_count rows) ≡ None
+  pub starts_hold : Holds (all_starts i) old_starts starts start_count
+  pub rows_filed : Filed (blocks (all_kept i)) old_rows rows row_count
+  pub granted : refusal i (length old_starts) (length old_rows) (take row_count rows) ≡ None
   pub rows_apart : Pairwise apart (take row_count rows)

@@ -354,7 +354,7 @@ found_at text ms c s a l f e h =
     answered-some text c l f (shelve ms l.contribution.«module» s).refusal (shelve ms l.contribution.«module» s).shelf (subst (λ o. (find_located text ms c o s).answer ≡ Ok (Some f)) e h)
 
 pub extents : (text : List ℕ) (ms : Modules) (c : Built) (s : Shelved) → Rises start_rank c.starts → Rises procedure_rank s.procedures → Extents text ms c s
-extents text ms c s rs rp a b l k f g few-a few-b here there one found also =
+extents text ms c s rs rp a b l k f g few_a few_b here there one found also =
     let x = located c a l here in
     let y = located c b k there in
     let ps = (shelve ms l.contribution.«module» s).shelf.procedures in

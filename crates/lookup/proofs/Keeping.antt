@@ -39,21 +39,21 @@ module _ {X : Type 0} (rank : X → List ℕ) (meets : X → X → Meeting) (row
   long_now = ap length s.2 ∙ length-append (placed rank meets r (take count rows)) (drop n rows) ∙ (let d = length-drop n rows in let e = s.0 in let f = s.1 in omega arith)
 
 -- two empty tables
-pub holds-none : (rows : List Procedure) (parent-rows : List Parent) → length rows ≡ most_procedures → length parent-rows ≡ most_procedures → Holds [] rows 0 parent-rows 0
-holds-none rows parent-rows l m = record { procedures_held = refl; few = omega arith; long = l; parents_held = refl; parents_few = omega arith; parents_long = m }
+pub holds-none : (rows : List Procedure) (parent_rows : List Parent) → length rows ≡ most_procedures → length parent_rows ≡ most_procedures → Holds [] rows 0 parent_rows 0
+holds-none rows parent_rows l m = record { procedures_held = refl; few = omega arith; long = l; parents_held = refl; parents_few = omega arith; parents_long = m }
 
-module _ (ps rows : List Procedure) (count : ℕ) (parent-rows : List Parent) (parent-count : ℕ) (h : Holds ps rows count parent-rows parent-count) where
+module _ (ps rows : List Procedure) (count : ℕ) (parent_rows : List Parent) (parent_count : ℕ) (h : Holds ps rows count parent_rows parent_count) where
   pub held_in_order : InOrder procedure_rank (take count rows)
   held_in_order = subst (InOrder procedure_rank) (sym h.procedures_held) (in_order_from_rises procedure_rank (in_order ps) (in_order-rises ps))
 
-  pub parents-in_order : InOrder parent_rank (take parent-count parent-rows)
+  pub parents-in_order : InOrder parent_rank (take parent_count parent_rows)
   parents-in_order = subst (InOrder parent_rank) (sym h.parents_held) (in_order_from_rises parent_rank (parents ps) (parents-rises ps))
 
   module _ (p : Procedure) where
     next : placed procedure_rank procedure_meets p (take count rows) ≡ in_order (ps ++ p ∷ [])
     next = ap (placed procedure_rank procedure_meets p) h.procedures_held ∙ sym (in_order_push ps p)
 
-    next_parents : placed parent_rank parent_meets (parent_of p) (take parent-count parent-rows) ≡ parents (ps ++ p ∷ [])
+    next_parents : placed parent_rank parent_meets (parent_of p) (take parent_count parent_rows) ≡ parents (ps ++ p ∷ [])
     next_parents = ap (placed parent_rank parent_meets (parent_of p)) h.parents_held ∙ sym (parents_push ps p)
 
     pub no_room : (rows' : List Procedure) → Settled procedure_rank procedure_meets rows count p None rows' → ltb most_procedures (length (in_order (ps ++ p ∷ []))) ≡ true
@@ -64,8 +64,8 @@ module _ (ps rows : List Procedure) (count : ℕ) (parent-rows : List Parent) (p
     room n rows' s = let l = h.long in let e = ap length next in let f = s.0 in let g = s.1 in omega arith
 
     -- where the procedure found room, so does its parent's row
-    pub parent_room : (n : ℕ) (rows' : List Procedure) (parent-rows' : List Parent) → Settled procedure_rank procedure_meets rows count p (Some n) rows' → Settled parent_rank parent_meets parent-rows parent-count (parent_of p) None parent-rows' → ⊥
-    parent_room n rows' parent-rows' s t =
+    pub parent_room : (n : ℕ) (rows' : List Procedure) (parent_rows' : List Parent) → Settled procedure_rank procedure_meets rows count p (Some n) rows' → Settled parent_rank parent_meets parent_rows parent_count (parent_of p) None parent_rows' → ⊥
+    parent_room n rows' parent_rows' s t =
         let l = room n rows' s in
         let e = ap length next_parents in
         let m = parents-length (ps ++ p ∷ []) in
@@ -73,10 +73,10 @@ module _ (ps rows : List Procedure) (count : ℕ) (parent-rows : List Parent) (p
         let k = h.parents_long in
         omega arith
 
-    pub holds_more : (n parent-n : ℕ) (rows' : List Procedure) (parent-rows' : List Parent) → Settled procedure_rank procedure_meets rows count p (Some n) rows' → Settled parent_rank parent_meets parent-rows parent-count (parent_of p) (Some parent-n) parent-rows' → Holds (ps ++ p ∷ []) rows' n parent-rows' parent-n
-    holds_more n parent-n rows' parent-rows' s t =
+    pub holds_more : (n parent_n : ℕ) (rows' : List Procedure) (parent_rows' : List Parent) → Settled procedure_rank procedure_meets rows count p (Some n) rows' → Settled parent_rank parent_meets parent_rows parent_count (parent_of p) (Some parent_n) parent_rows' → Holds (ps ++ p ∷ []) rows' n parent_rows' parent_n
+    holds_more n parent_n rows' parent_rows' s t =
         let l = long_now procedure_rank procedure_meets rows count n p rows' s in
-        let m = long_now parent_rank parent_meets parent-rows parent-count parent-n (parent_of p) parent-rows' t in
+        let m = long_now parent_rank parent_meets parent_rows parent_count parent_n (parent_of p) parent_rows' t in
         let a = h.long in
         let b = h.parents_long in
         let c = s.1 in
@@ -85,7 +85,7 @@ module _ (ps rows : List Procedure) (count : ℕ) (parent-rows : List Parent) (p
           procedures_held = used_now procedure_rank procedure_meets rows count n p rows' s ∙ next;
           few = omega arith;
           long = l ∙ a;
-          parents_held = used_now parent_rank parent_meets parent-rows parent-count parent-n (parent_of p) parent-rows' t ∙ next_parents;
+          parents_held = used_now parent_rank parent_meets parent_rows parent_count parent_n (parent_of p) parent_rows' t ∙ next_parents;
           parents_few = omega arith;
           parents_long = m ∙ b;
         }
@@ -120,27 +120,27 @@ module _ (m k : ℕ) (ps : List Procedure) (rs : List SymbolRecord) (r : SymbolR
 
 -- how far a reader has come
 abbrev pub Progress : ℕ → List SymbolRecord → ℕ → List Procedure → ℕ → List Parent → ℕ → Type 0
-Progress m rs k rows count parent-rows parent-count =
-    (ps : List Procedure) × Holds ps rows count parent-rows parent-count × (all_kept m 0 [] rs ≡ all_kept m k ps (drop k rs))
+Progress m rs k rows count parent_rows parent_count =
+    (ps : List Procedure) × Holds ps rows count parent_rows parent_count × (all_kept m 0 [] rs ≡ all_kept m k ps (drop k rs))
 
-module _ (m k : ℕ) (rs : List SymbolRecord) (rows : List Procedure) (count : ℕ) (parent-rows : List Parent) (parent-count : ℕ) where
-  pub progress_ended : slice_get rs k ≡ None → Progress m rs k rows count parent-rows parent-count → (ps : List Procedure) × (all_kept m 0 [] rs ≡ Ok ps) × (take count rows ≡ in_order ps) × (count ≤ most_procedures)
+module _ (m k : ℕ) (rs : List SymbolRecord) (rows : List Procedure) (count : ℕ) (parent_rows : List Parent) (parent_count : ℕ) where
+  pub progress_ended : slice_get rs k ≡ None → Progress m rs k rows count parent_rows parent_count → (ps : List Procedure) × (all_kept m 0 [] rs ≡ Ok ps) × (take count rows ≡ in_order ps) × (count ≤ most_procedures)
   progress_ended e g = (g.0, g.2 ∙ ap (all_kept m k g.0) (end_drop rs k e), g.1.procedures_held, (let f = g.1.few in let l = g.1.long in omega arith))
 
-  module _ (r : SymbolRecord) (found : slice_get rs k ≡ Some r) (o : Option Procedure) (read : InOrder parent_rank (take parent-count parent-rows) → o ≡ kept_by (take parent-count parent-rows) k r.symbol) (g : Progress m rs k rows count parent-rows parent-count) where
+  module _ (r : SymbolRecord) (found : slice_get rs k ≡ Some r) (o : Option Procedure) (read : InOrder parent_rank (take parent_count parent_rows) → o ≡ kept_by (take parent_count parent_rows) k r.symbol) (g : Progress m rs k rows count parent_rows parent_count) where
     is_kept : o ≡ kept g.0 k r.symbol
     is_kept =
-        read (parents-in_order g.0 rows count parent-rows parent-count g.1) ∙ ap (λ q. kept_by q k r.symbol) g.1.parents_held ∙ kept_by-parents g.0 k r.symbol
+        read (parents-in_order g.0 rows count parent_rows parent_count g.1) ∙ ap (λ q. kept_by q k r.symbol) g.1.parents_held ∙ kept_by-parents g.0 k r.symbol
 
-    pub progress_skipped : o ≡ None → Progress m rs (k + 1) rows count parent-rows parent-count
+    pub progress_skipped : o ≡ None → Progress m rs (k + 1) rows count parent_rows parent_count
     progress_skipped e = (g.0, g.1, g.2 ∙ step_skipped m k g.0 rs r found (sym is_kept ∙ e))
 
     module _ (p : Procedure) (e : o ≡ Some p) where
-      pub progress_kept : (rows' : List Procedure) (count' : ℕ) (parent-rows' : List Parent) (parent-count' : ℕ) → ((ps : List Procedure) → Holds ps rows count parent-rows parent-count → None ≡ procedure_refusal m k ps p) → ((ps : List Procedure) → Holds ps rows count parent-rows parent-count → Holds (ps ++ p ∷ []) rows' count' parent-rows' parent-count') → Progress m rs (k + 1) rows' count' parent-rows' parent-count'
-      progress_kept rows' count' parent-rows' parent-count' granted added =
+      pub progress_kept : (rows' : List Procedure) (count' : ℕ) (parent_rows' : List Parent) (parent_count' : ℕ) → ((ps : List Procedure) → Holds ps rows count parent_rows parent_count → None ≡ procedure_refusal m k ps p) → ((ps : List Procedure) → Holds ps rows count parent_rows parent_count → Holds (ps ++ p ∷ []) rows' count' parent_rows' parent_count') → Progress m rs (k + 1) rows' count' parent_rows' parent_count'
+      progress_kept rows' count' parent_rows' parent_count' granted added =
           (g.0 ++ p ∷ [], added g.0 g.1, g.2 ∙ step_kept m k g.0 rs r found p (sym is_kept ∙ e) (sym (granted g.0 g.1)))
 
-      pub progress_refused : (x : Refusal) → ((ps : List Procedure) → Holds ps rows count parent-rows parent-count → Some x ≡ procedure_refusal m k ps p) → all_kept m 0 [] rs ≡ Err x
+      pub progress_refused : (x : Refusal) → ((ps : List Procedure) → Holds ps rows count parent_rows parent_count → Some x ≡ procedure_refusal m k ps p) → all_kept m 0 [] rs ≡ Err x
       progress_refused x refused = g.2 ∙ step_refused m k g.0 rs r found p x (sym is_kept ∙ e) (sym (refused g.0 g.1))
 
 pub none_from : {X : Type 0} (o : Option X) → ((x : X) → o ≡ Some x → ⊥) → o ≡ None

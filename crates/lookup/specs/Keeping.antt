@@ -33,13 +33,13 @@ abbrev pub parents : List Procedure → List Parent
 parents ps = fold (λ xs p. placed parent_rank parent_meets (parent_of p) xs) [] ps
 
 -- two tables hold what was kept so far
-pub record Holds (ps rows : List Procedure) (count : ℕ) (parent-rows : List Parent) (parent-count : ℕ) : Type 0 where
+pub record Holds (ps rows : List Procedure) (count : ℕ) (parent_rows : List Parent) (parent_count : ℕ) : Type 0 where
   pub procedures_held : take count rows ≡ in_order ps
   pub few : count ≤ length rows
   pub long : length rows ≡ most_procedures
-  pub parents_held : take parent-count parent-rows ≡ parents ps
-  pub parents_few : parent-count ≤ length parent-rows
-  pub parents_long : length parent-rows ≡ most_procedures
+  pub parents_held : take parent_count parent_rows ≡ parents ps
+  pub parents_few : parent_count ≤ length parent_rows
+  pub parents_long : length parent_rows ≡ most_procedures
 
 -- the symbols of a module have been read to their end, or up to a refusal
 abbrev pub Read : ℕ → Module → List Procedure → ℕ → Result Ending Refusal → Type 0

@@ -1,5 +1,5 @@
 // The contributions: blocks in order, the starts that they add, and overlaps.
-ghost use Rattle.std.specs.Prelude.{◌≡◌, ◌<◌, true, ◌||◌, ltb, List, [], ◌∷◌, ◌++◌, length, take, drop, is_ok, IfOk, if◌then◌else◌, Some, None, nat_lt};
+ghost use Rattle.std.specs.Prelude.{◌≡◌, ◌<◌, true, ◌||◌, List, [], ◌∷◌, ◌++◌, length, take, drop, is_ok, IfOk, if◌then◌else◌, Some, None, nat_lt};
 ghost use Rattle.std.specs.Result.{result_err};
 ghost use Rattle.std.specs.List.{slice_get};
 ghost use Rattle.base.specs.declared.context.KnownStart.{KnownStart as Start};
@@ -22,7 +22,7 @@ use table::{Full, Table};
 
 // The contribution as a block of its own.
 fn open_block(item: u32, new: &SectionContribution) -> Result<Contribution, Refusal>
-    ensures refused { result_err result ≡ (if ltb top (end_of new.now) then Some (ContributionOutside item) else None) }
+    ensures refused { result_err result ≡ (if nat_lt top (end_of new.now) then Some (ContributionOutside item) else None) }
     ensures opened { IfOk result (λ b. b ≡ block new.now) }
 {
     match new.offset.offset.checked_add(new.size) {
@@ -42,7 +42,7 @@ fn extend_block(
     item: u32,
     new: &SectionContribution,
 ) -> Result<Contribution, Refusal>
-    ensures refused { result_err result ≡ or_else (if ltb top (end_of new.now) then Some (ContributionOutside item) else None) (if ltb new.now.offset.offset current.start || nat_lt (end_of new.now) current.end then Some (Unordered item new.now.«module» new.now.offset.section) else None) }
+    ensures refused { result_err result ≡ or_else (if nat_lt top (end_of new.now) then Some (ContributionOutside item) else None) (if nat_lt new.now.offset.offset current.start || nat_lt (end_of new.now) current.end then Some (Unordered item new.now.«module» new.now.offset.section) else None) }
     ensures grown { IfOk result (λ b. b ≡ grown current new.now) }
 {
     let Some(end) = new.offset.offset.checked_add(new.size) else {
@@ -64,7 +64,7 @@ fn extend_block(
 }
 
 fn close_block(contributions: &mut Table<Contribution>, block: Contribution) -> Result<(), Refusal>
-    ensures refused { (bs old : List Row) → Filed bs old contributions.old.rows.now contributions.old.count → result_err result ≡ (if ltb (length old) (length (block ∷ bs)) then Some ContributionTableFull else None) }
+    ensures refused { (bs old : List Row) → Filed bs old contributions.old.rows.now contributions.old.count → result_err result ≡ (if nat_lt (length old) (length (block ∷ bs)) then Some ContributionTableFull else None) }
     ensures added { (bs old : List Row) → Filed bs old contributions.old.rows.now contributions.old.count → is_ok result ≡ true → Filed (block ∷ bs) old contributions.new.rows.now contributions.new.count }
     ensures lender { contributions.new.rows.ghost_name ≡ contributions.old.rows.ghost_name }
     ensures long { length contributions.new.rows.now ≡ length contributions.old.rows.now }
@@ -80,7 +80,7 @@ fn close_last(
     contributions: &mut Table<Contribution>,
     current: Option<Contribution>,
 ) -> Result<(), Refusal>
-    ensures refused { (bs old : List Row) → Filed (drop 1 bs) old contributions.old.rows.now contributions.old.count → current ≡ slice_get bs 0 → result_err result ≡ (if ltb (length old) (length bs) then Some ContributionTableFull else None) }
+    ensures refused { (bs old : List Row) → Filed (drop 1 bs) old contributions.old.rows.now contributions.old.count → current ≡ slice_get bs 0 → result_err result ≡ (if nat_lt (length old) (length bs) then Some ContributionTableFull else None) }
     ensures closed { (bs old : List Row) → Filed (drop 1 bs) old contributions.old.rows.now contributions.old.count → current ≡ slice_get bs 0 → is_ok result ≡ true → Filed bs old contributions.new.rows.now contributions.new.count }
     ensures lender { contributions.new.rows.ghost_name ≡ contributions.old.rows.ghost_name }
     ensures long { length contributions.new.rows.now ≡ length contributions.old.rows.now }

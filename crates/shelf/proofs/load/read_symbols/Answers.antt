@@ -27,13 +27,13 @@ loop-found-init g c = (omega arith, ([], c.requires, refl), refl)
 pub loop-found-preserved : goal.loop-found-preserved
 loop-found-preserved g c =
     let x = content ((g.P.ModuleProvider.modules c.args.provider.now).at c.args.module) in
-    let at-k : slice_get x.symbols c.loop-found.item ≡ Some c.in-Item.found = entry_item x.symbols x.symbols_end c.loop-found.item c.in-Item.found (sym c.in-Item.ensures) in
-    let inside : c.loop-found.item < length x.symbols = item_within x.symbols c.loop-found.item c.in-Item.found at-k in
+    let at_k : slice_get x.symbols c.loop-found.item ≡ Some c.in-Item.found = entry_item x.symbols x.symbols_end c.loop-found.item c.in-Item.found (sym c.in-Item.ensures) in
+    let inside : c.loop-found.item < length x.symbols = item_within x.symbols c.loop-found.item c.in-Item.found at_k in
     elim c.match-kept_procedure.branch [
       | in-Some+in_ok-add_procedure-in-Item w ↦ (
         omega arith,
         subst₂ (λ t u. Progress c.args.module x.symbols (c.loop-found.item + 1) t.rows.now t.count u.rows.now u.count) (sym w.procedures-is) (sym w.parents-is)
-            (progress_kept c.args.module c.loop-found.item x.symbols c.loop-found.procedures.rows.now c.loop-found.procedures.count c.loop-found.parents.rows.now c.loop-found.parents.count c.in-Item.found at-k c.kept_procedure.result c.kept_procedure.ensures c.loop-found.invariant.1 w.in-Some.procedure w.in-Some.is
+            (progress_kept c.args.module c.loop-found.item x.symbols c.loop-found.procedures.rows.now c.loop-found.procedures.count c.loop-found.parents.rows.now c.loop-found.parents.count c.in-Item.found at_k c.kept_procedure.result c.kept_procedure.ensures c.loop-found.invariant.1 w.in-Some.procedure w.in-Some.is
             w.add_procedure.new.procedures.rows.now w.add_procedure.new.procedures.count w.add_procedure.new.parents.rows.now w.add_procedure.new.parents.count
             w.in_ok-add_procedure-in-Item.ensures.refused
             (λ ps h. w.in_ok-add_procedure-in-Item.ensures.added ps h refl)),
@@ -42,7 +42,7 @@ loop-found-preserved g c =
       | in_default w ↦ (
         omega arith,
         subst₂ (λ t u. Progress c.args.module x.symbols (c.loop-found.item + 1) t.rows.now t.count u.rows.now u.count) (sym w.procedures-is) (sym w.parents-is)
-            (progress_skipped c.args.module c.loop-found.item x.symbols c.loop-found.procedures.rows.now c.loop-found.procedures.count c.loop-found.parents.rows.now c.loop-found.parents.count c.in-Item.found at-k c.kept_procedure.result c.kept_procedure.ensures c.loop-found.invariant.1 (none_from c.kept_procedure.result w.in_default.not-Some)),
+            (progress_skipped c.args.module c.loop-found.item x.symbols c.loop-found.procedures.rows.now c.loop-found.procedures.count c.loop-found.parents.rows.now c.loop-found.parents.count c.in-Item.found at_k c.kept_procedure.result c.kept_procedure.ensures c.loop-found.invariant.1 (none_from c.kept_procedure.result w.in_default.not-Some)),
         ap (λ t. t.rows.ghost_name) w.procedures-is ∙ c.loop-found.invariant.2,
       )
     ]
@@ -50,11 +50,11 @@ loop-found-preserved g c =
 pub returns-in_err-add_procedure-in-Item : goal.returns-in_err-add_procedure-in-Item
 returns-in_err-add_procedure-in-Item g c =
     let x = content ((g.P.ModuleProvider.modules c.args.provider.now).at c.args.module) in
-    let at-k : slice_get x.symbols c.loop-found.item ≡ Some c.in-Item.found = entry_item x.symbols x.symbols_end c.loop-found.item c.in-Item.found (sym c.in-Item.ensures) in
+    let at_k : slice_get x.symbols c.loop-found.item ≡ Some c.in-Item.found = entry_item x.symbols x.symbols_end c.loop-found.item c.in-Item.found (sym c.in-Item.ensures) in
     let p = err_from_is_err_and c.from_residual.result c.from_residual.ensures.1 in
     record {
       read = subst (Read c.args.module x c.add_procedure.new.procedures.rows.now c.add_procedure.new.procedures.count) (sym p.1)
-          (progress_refused c.args.module c.loop-found.item x.symbols c.loop-found.procedures.rows.now c.loop-found.procedures.count c.loop-found.parents.rows.now c.loop-found.parents.count c.in-Item.found at-k c.kept_procedure.result c.kept_procedure.ensures c.loop-found.invariant.1 c.in-Some.procedure c.in-Some.is
+          (progress_refused c.args.module c.loop-found.item x.symbols c.loop-found.procedures.rows.now c.loop-found.procedures.count c.loop-found.parents.rows.now c.loop-found.parents.count c.in-Item.found at_k c.kept_procedure.result c.kept_procedure.ensures c.loop-found.invariant.1 c.in-Some.procedure c.in-Some.is
           p.0 (λ ps h. ap Some p.2 ∙ c.in_err-add_procedure-in-Item.ensures.refused ps h));
       lender = c.add_procedure.ensures.lender ∙ c.loop-found.invariant.2;
     }
