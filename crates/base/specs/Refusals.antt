@@ -1,5 +1,6 @@
 -- Each refusal's number, its step, and the item and the module that it names. Assumes nothing.
-use Rattle.std.specs.Prelude.{ℕ, Some, None, Option}
+use Rattle.std.specs.Prelude.{ℕ, Some, None, Option, Ok, Err, Result}
+use Rattle.base.specs.declared.image.FaultCode.{FaultCode}
 use Rattle.base.specs.declared.refusal.Step.{Step}
 use Rattle.base.specs.declared.refusal.Step.TheVariants.{Opening, CheckSections, ReadPublicSymbols, ReadContributions, CheckOverlaps, ReadModule, ReadExtras, ReadLineRows, WalkSites, ListFunctions, WriteFrames}
 use Rattle.base.specs.declared.refusal.FaultyList.{FaultyList}
@@ -92,3 +93,8 @@ module_of (RangeOutside m item) = Some m
 module_of (SitesTooDeep m item) = Some m
 module_of (TooManyRanges m) = Some m
 module_of (Fault list code) = list_module list
+
+-- a list's answer, its fault as a refusal
+abbrev pub or_refusal : {X : Type 0} → FaultyList → Result X FaultCode → Result X Refusal
+or_refusal list (Ok x) = Ok x
+or_refusal list (Err code) = Err (Fault list code)

@@ -1,8 +1,10 @@
 -- The rows of a context's tables: how they stand, and the empty ones. Assumes nothing.
-use Rattle.std.specs.Prelude.{ℕ, Bool, cond, not, ◌&&◌, List, [], ◌∷◌, is_some, None}
+use Rattle.std.specs.Prelude.{ℕ, Bool, cond, not, ◌&&◌, List, [], ◌∷◌, is_some, Some, None, ◌==◌}
+use Rattle.order.specs.Rank.{inside}
 use Rattle.order.specs.declared.Meeting.{Meeting}
 use Rattle.order.specs.declared.Meeting.TheVariants.{Stays, GivesWay, Both}
 use Rattle.base.specs.declared.image.SectionOffset.{SectionOffset}
+use Rattle.base.specs.declared.image.PublicSymbol.{PublicSymbol}
 use Rattle.base.specs.declared.context.KnownStart.{KnownStart}
 use Rattle.base.specs.declared.context.Contribution.{Contribution}
 
@@ -14,8 +16,18 @@ offset_rank o = o.section ∷ o.offset ∷ []
 abbrev pub start_rank : KnownStart → List ℕ
 start_rank s = offset_rank s.offset
 
+-- whether something that reaches from low up to high in a section contains a place: none of another section, and not its end
+abbrev pub in_section : ℕ → ℕ → ℕ → SectionOffset → Bool
+in_section section low high o = section == o.section && inside low high o.offset
+
 abbrev pub named : KnownStart → Bool
 named s = is_some s.name
+
+abbrev pub named_start : PublicSymbol → KnownStart
+named_start p = record { offset = p.offset; name = Some p.name }
+
+abbrev pub unnamed_start : SectionOffset → KnownStart
+unnamed_start o = record { offset = o; name = None }
 
 -- a named start beats an unnamed one, and among equals the first stays
 abbrev pub start_meets : KnownStart → KnownStart → Meeting

@@ -1,21 +1,20 @@
 // The rows of a context's tables.
-ghost use Rattle.std.specs.Prelude.{◌≡◌, [], ◌∷◌};
-ghost use Rattle.order.specs.Rank.{Compared};
-ghost use Rattle.base.specs.Rows.{start_rank, start_meets, contribution_rank, contribution_meets, no_start, no_contribution};
+ghost use Rattle.std.specs.Prelude.{◌≡◌};
+ghost use Rattle.base.specs.Rows.{start_rank, start_meets, contribution_rank, contribution_meets, no_start, no_contribution, named_start, unnamed_start};
 
-use crate::image::{SectionOffset, TextPart};
+use crate::image::{InSection, PublicSymbol, SectionOffset, TextPart};
 use order::{Meeting, Row, Span};
 use std::cmp::Ordering;
 
 // Where a function may start. One that comes from a public symbol has its name.
-#[derive(Clone, Copy)]
+#[derive(Clone, Copy, Default)]
 pub struct KnownStart {
     pub offset: SectionOffset,
     pub name: Option<TextPart>,
 }
 
-// A module's part of a section, from `start` up to `end`.
-#[derive(Clone, Copy)]
+// A module's part of a section, from `start` up to `end`. The fields stand in the order by which contributions are compared.
+#[derive(Clone, Copy, Default, PartialEq, Eq, PartialOrd, Ord)]
 pub struct Contribution {
     pub section: u16,
     pub start: u32,
@@ -28,13 +27,28 @@ impl KnownStart {
     pub fn empty() -> KnownStart
         ensures { result ≡ no_start }
     {
+        KnownStart::default()
+    }
+}
+
+// The start of a public symbol.
+impl From<PublicSymbol> for KnownStart {
+    ghost from_gives = { λ p r. r ≡ named_start p };
+
+    fn from(symbol: PublicSymbol) -> KnownStart {
         KnownStart {
-            offset: SectionOffset {
-                section: 0,
-                offset: 0,
-            },
-            name: None,
+            offset: symbol.offset,
+            name: Some(symbol.name),
         }
+    }
+}
+
+// A start without a name.
+impl From<SectionOffset> for KnownStart {
+    ghost from_gives = { λ o r. r ≡ unnamed_start o };
+
+    fn from(offset: SectionOffset) -> KnownStart {
+        KnownStart { offset, name: None }
     }
 }
 
@@ -42,28 +56,7 @@ impl Contribution {
     pub fn empty() -> Contribution
         ensures { result ≡ no_contribution }
     {
-        Contribution {
-            section: 0,
-            start: 0,
-            end: 0,
-            module: 0,
-        }
-    }
-
-    fn by_start(&self, other: &Contribution) -> Ordering
-        ensures { Compared result (self.now.section ∷ self.now.start ∷ []) (other.now.section ∷ other.now.start ∷ []) }
-    {
-        self.section
-            .cmp(&other.section)
-            .then(self.start.cmp(&other.start))
-    }
-
-    fn by_end(&self, other: &Contribution) -> Ordering
-        ensures { Compared result (self.now.end ∷ self.now.«module» ∷ []) (other.now.end ∷ other.now.«module» ∷ []) }
-    {
-        self.end
-            .cmp(&other.end)
-            .then(self.module.cmp(&other.module))
+        Contribution::default()
     }
 }
 
@@ -73,10 +66,7 @@ impl Row for KnownStart {
     ghost meets = { start_meets };
 
     fn compare(&self, other: &KnownStart) -> Ordering {
-        self.offset
-            .section
-            .cmp(&other.offset.section)
-            .then(self.offset.offset.cmp(&other.offset.offset))
+        self.offset.cmp(&other.offset)
     }
 
     fn meet(&self, newer: &KnownStart) -> Meeting {
@@ -93,7 +83,7 @@ impl Row for Contribution {
     ghost meets = { contribution_meets };
 
     fn compare(&self, other: &Contribution) -> Ordering {
-        self.by_start(other).then(self.by_end(other))
+        self.cmp(other)
     }
 
     fn meet(&self, _newer: &Contribution) -> Meeting {
@@ -107,10 +97,18 @@ impl Span for Contribution {
     ghost high = { λ c. c.end };
 
     fn start(&self) -> u64 {
-        self.start as u64
+        u64::from(self.start)
     }
 
     fn end(&self) -> u64 {
-        self.end as u64
+        u64::from(self.end)
+    }
+}
+
+impl InSection for Contribution {
+    ghost section = { λ c. c.section };
+
+    fn section(&self) -> u16 {
+        self.section
     }
 }

@@ -1,23 +1,23 @@
 // What an image source answers with.
-ghost use Rattle.std.specs.Prelude.{ℕ, ◌+◌};
+ghost use Rattle.std.specs.Prelude.{◌≡◌, ℕ, ◌+◌};
 
 use order::Span;
 
 // A place in the image: a section number, counted from 1, and how far into that section.
-#[derive(Clone, Copy)]
+#[derive(Clone, Copy, Default, PartialEq, Eq, PartialOrd, Ord)]
 pub struct SectionOffset {
     pub section: u16,
     pub offset: u32,
 }
 
 // A part of the source's text, as a name is.
-#[derive(Clone, Copy)]
+#[derive(Clone, Copy, Default)]
 pub struct TextPart {
     pub start: u32,
     pub length: u32,
 }
 
-#[derive(Clone, Copy)]
+#[derive(Clone, Copy, Default)]
 pub struct Section {
     pub address: u32,
     pub size: u32,
@@ -38,18 +38,22 @@ pub struct PublicSymbol {
     pub name: TextPart,
 }
 
-// How a list ends.
+// The code of a fault that breaks a list off.
 #[derive(Clone, Copy)]
-pub enum Ending {
-    Clean,
-    Fault(u16),
-}
+pub struct FaultCode(pub u16);
 
-// The answer to a question for an item of a list: the item, or the list's ending where there is none.
-#[derive(Drop)]
-pub enum Entry<T> {
-    Item(T),
-    End(Ending),
+// How a list ends.
+pub type Ending = Result<(), FaultCode>;
+
+// The answer to a question for an item of a list: the item, none past the last one, or the fault that breaks the list off there.
+pub type Entry<T> = Result<Option<T>, FaultCode>;
+
+// A span of places in one section.
+pub trait InSection: Span {
+    ghost section: { Self → ℕ };
+
+    fn section(&self) -> u16
+        ensures { result ≡ section self.now };
 }
 
 impl Span for Section {
@@ -58,10 +62,10 @@ impl Span for Section {
     ghost high = { λ s. s.address + s.size };
 
     fn start(&self) -> u64 {
-        self.address as u64
+        u64::from(self.address)
     }
 
     fn end(&self) -> u64 {
-        u64::from(self.address) + u64::from(self.size)
+        self.start() + u64::from(self.size)
     }
 }

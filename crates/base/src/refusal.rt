@@ -1,6 +1,8 @@
-// Every refusal of the project. docs/REFUSALS.md has the same as a table.
+// Every refusal of the project, those of calls that are still to come among them. docs/REFUSALS.md has the same as a table.
 ghost use Rattle.std.specs.Prelude.{◌≡◌};
-ghost use Rattle.base.specs.Refusals.{number_of, step_of, item_of, module_of, list_step, list_module};
+ghost use Rattle.base.specs.Refusals.{number_of, step_of, item_of, module_of, list_step, list_module, or_refusal};
+
+use crate::image::FaultCode;
 
 // Where a refusal is met.
 #[derive(Clone, Copy)]
@@ -99,11 +101,18 @@ pub enum Refusal {
     // 16: the provider's own fault
     Fault {
         list: FaultyList,
-        code: u16,
+        code: FaultCode,
     },
 }
 
 impl FaultyList {
+    // What the list answers, its fault as a refusal.
+    pub fn refuse<T>(self, answer: Result<T, FaultCode>) -> Result<T, Refusal>
+        ensures { result ≡ or_refusal self answer }
+    {
+        answer.map_err(|code| Refusal::Fault { list: self, code })
+    }
+
     fn step(&self) -> Step
         ensures { result ≡ list_step self.now }
     {

@@ -1,8 +1,7 @@
 -- Blocks in order, of which no neighbours overlap, lie apart. Assumes nothing.
-use Rattle.std.proofs.Common.{◌≡◌, ℕ, zero, suc, ◌+◌, ◌-◌, ◌<◌, ◌≤◌, min, true, false, cond, not, List, [], ◌∷◌, ◌++◌, length, get_or, take, drop, Some, None, fold, sym, refl, ap, ◌∙◌, subst, ⊎_elim, arith}
+use Rattle.std.proofs.Common.{◌≡◌, ℕ, zero, suc, ◌<◌, true, false, cond, not, List, [], ◌∷◌, ◌++◌, length, get_or, Some, None, fold, sym, refl, ap, ◌∙◌, subst, ⊎_elim, arith}
 use Rattle.std.specs.List.{AllByRecursion}
 use Rattle.std.proofs.lemmas.Bool.{cases_Bool, cond-true, cond-false}
-use Rattle.std.proofs.lemmas.List.{drop_more, length-drop, length-take, get_or-take}
 use Rattle.std.proofs.ByRecursion.{All-weaker, All-from_get_or}
 use Rattle.std.proofs.lemmas.Bool.Decides.{nat_tests}
 use Rattle.order.specs.Rank.{before, same, InOrder, Pairwise, tally}
@@ -13,7 +12,6 @@ use Rattle.base.specs.Rows.{contribution_rank, no_contribution}
 use Rattle.base.specs.declared.image.SectionContribution.{SectionContribution}
 use Rattle.base.specs.declared.context.Contribution.{Contribution}
 use Rattle.base.specs.declared.refusal.Refusal.{Refusal}
-use Rattle.base.specs.declared.refusal.Refusal.TheVariants.{Overlapping}
 use Rattle.building.specs.Blocks.{block, joins, grown, more, blocks, Stands, overlaps, first_overlap, apart}
 use Rattle.building.specs.Filling.{Proper}
 use Rattle.building.proofs.Filling.{stands-none, stands-more}
@@ -84,33 +82,6 @@ blocks-none (c ∷ cs) e =
     let m : length (blocks (c ∷ cs)) ≡ 0 = ap length e in
     absurd (omega arith)
 
--- neighbours, one after the other
-module _ (rows : List Contribution) (k : ℕ) (d : Contribution) (low : 1 ≤ k) (within : k < length rows) where
-  abbrev a : Contribution
-  a = get_or rows (k - 1) d
-
-  abbrev b : Contribution
-  b = get_or rows k d
-
-  both_left : drop (k - 1) rows ≡ a ∷ b ∷ drop (k + 1) rows
-  both_left =
-      let e : k - 1 + 1 ≡ k = omega arith in
-      drop_more rows (k - 1) d (omega arith) ∙ ap (λ j. a ∷ drop j rows) e ∙ ap (λ l. a ∷ l) (drop_more rows k d within)
-
-  pub overlap_here : overlaps a b ≡ true → first_overlap (drop (k - 1) rows) ≡ Some (Overlapping a.section a.«module» b.«module»)
-  overlap_here t = ap first_overlap both_left ∙ cond-true _ _ _ t
-
-  pub overlap_on : overlaps a b ≡ false → first_overlap (drop (k - 1) rows) ≡ first_overlap (drop (k + 1 - 1) rows)
-  overlap_on t = ap first_overlap both_left ∙ cond-false _ _ _ t ∙ ap first_overlap (sym (drop_more rows k d within)) ∙ ap (λ j. first_overlap (drop j rows)) (omega arith)
-
-short_none : (xs : List Contribution) → length xs ≤ 1 → first_overlap xs ≡ None
-short_none [] l = refl
-short_none (a ∷ []) l = refl
-short_none (a ∷ b ∷ xs) l = absurd (omega arith)
-
-pub overlap_end : (rows : List Contribution) (k : ℕ) → 1 ≤ k → length rows ≤ k → first_overlap (drop (k - 1) rows) ≡ None
-overlap_end rows k low l = short_none (drop (k - 1) rows) (let d = length-drop (k - 1) rows in omega arith)
-
 -- what holds of the blocks holds of them in order
 tally-at : (xs : List Contribution) (k : ℕ) (d : Contribution) → k < length xs → 0 < tally contribution_rank (contribution_rank (get_or xs k d)) xs
 tally-at [] k d l = absurd (omega arith)
@@ -128,32 +99,3 @@ tally_has P (b ∷ bs) x l a =
 pub stands_all : (P : Contribution → Type 0) (bs xs : List Contribution) → Stands bs xs → AllByRecursion P bs → AllByRecursion P xs
 stands_all P bs xs h a =
     All-from_get_or P xs no_contribution (λ k l. tally_has P bs (get_or xs k no_contribution) (subst (λ n. 0 < n) (h.as_often (get_or xs k no_contribution)) (tally-at xs k no_contribution l)) a)
-
--- the same in the used rows of a table
-module _ (rows : List Contribution) (count m k : ℕ) (few : m ≡ min count (length rows)) (low : 1 ≤ k) where
-  abbrev Used : List Contribution
-  Used = take count rows
-
-  used-length : length Used ≡ m
-  used-length = length-take count rows ∙ sym few
-
-  module _ (d : Contribution) (within : k < m) where
-    low_row : get_or Used (k - 1) d ≡ get_or rows (k - 1) d
-    low_row = get_or-take count rows (k - 1) d (omega arith)
-
-    high_row : get_or Used k d ≡ get_or rows k d
-    high_row = get_or-take count rows k d (omega arith)
-
-    inside' : k < length Used
-    inside' = let e = used-length in omega arith
-
-    pub used_here : overlaps (get_or rows (k - 1) d) (get_or rows k d) ≡ true → first_overlap (drop (k - 1) Used) ≡ Some (Overlapping (get_or rows (k - 1) d).section (get_or rows (k - 1) d).«module» (get_or rows k d).«module»)
-    used_here t =
-        overlap_here Used k d low inside' (ap (λ x. overlaps x (get_or Used k d)) low_row ∙ ap (overlaps (get_or rows (k - 1) d)) high_row ∙ t) ∙
-        ap (λ x. Some (Overlapping x.section x.«module» (get_or Used k d).«module»)) low_row ∙ ap (λ x. Some (Overlapping (get_or rows (k - 1) d).section (get_or rows (k - 1) d).«module» x.«module»)) high_row
-
-    pub used_on : overlaps (get_or rows (k - 1) d) (get_or rows k d) ≡ false → first_overlap (drop (k - 1) Used) ≡ first_overlap (drop (k + 1 - 1) Used)
-    used_on t = overlap_on Used k d low inside' (ap (λ x. overlaps x (get_or Used k d)) low_row ∙ ap (overlaps (get_or rows (k - 1) d)) high_row ∙ t)
-
-  pub used_end : m ≤ k → first_overlap (drop (k - 1) Used) ≡ None
-  used_end l = overlap_end Used k low (let e = used-length in omega arith)

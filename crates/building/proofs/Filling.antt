@@ -1,11 +1,11 @@
 -- One row more in a table that is being filled. Assumes nothing.
-use Rattle.std.proofs.Common.{◌≡◌, ℕ, suc, ◌+◌, ◌-◌, ◌<◌, ◌≤◌, cond, not, ltb, List, [], ◌∷◌, ◌++◌, length, take, drop, Some, None, sym, refl, ap, ◌∙◌, subst, arith}
+use Rattle.std.proofs.Common.{◌≡◌, ℕ, suc, ◌+◌, ◌-◌, ◌<◌, ◌≤◌, Bool, true, false, cond, not, ltb, List, [], ◌∷◌, ◌++◌, length, take, drop, Some, None, sym, refl, ap, ◌∙◌, subst, arith}
 use Rattle.std.proofs.lemmas.List.{take_at, drop_at, length-append, length-drop, length-take-le, drop-drop}
 use Rattle.std.proofs.lemmas.Bool.{cond-true, cond-false, le-ltb, lt-ltb}
 use Rattle.order.specs.declared.Meeting.{Meeting}
-use Rattle.order.specs.Rank.{before, same, InOrder}
+use Rattle.order.specs.Rank.{before, same}
 use Rattle.order.specs.Placed.{placed, Settled}
-use Rattle.order.proofs.Rows.{pairwise-none, in_order-placed, in_order_from_rises, length-placed_both, tally-placed_both, length-placed_least}
+use Rattle.order.proofs.Rows.{pairwise-none, in_order-placed, length-placed_both, tally-placed_both, length-placed_least}
 use Rattle.base.specs.Rows.{start_rank, start_meets, contribution_rank, contribution_meets}
 use Rattle.base.specs.declared.context.KnownStart.{KnownStart}
 use Rattle.base.specs.declared.context.Contribution.{Contribution}
@@ -45,9 +45,6 @@ module _ {X : Type 0} (rank : X → List ℕ) (meets : X → X → Meeting) (old
 
 pub holds-none : (old : List KnownStart) → Holds [] old old 0
 holds-none old = record { known = known-none; counted = refl; untouched = untouched-none old }
-
-pub holds-in_order : (cs old rows : List KnownStart) (count : ℕ) → Holds cs old rows count → InOrder start_rank (take count rows)
-holds-in_order cs old rows count h = in_order_from_rises start_rank (take count rows) h.known.rises
 
 holds-length : (cs old rows : List KnownStart) (count : ℕ) → Holds cs old rows count → length (take count rows) ≡ offset_count cs
 holds-length cs old rows count h = length-take-le count rows h.untouched.few ∙ h.counted
@@ -118,6 +115,15 @@ block_room bs old rows count n b rows' e h s =
 pub block_full : (bs old rows : List Contribution) (count : ℕ) (b : Contribution) (rows' : List Contribution) (e : Refusal) → Filed bs old rows count → Settled contribution_rank contribution_meets rows count b None rows' → Some e ≡ cond (ltb (length old) (length (b ∷ bs))) (Some e) None
 block_full bs old rows count b rows' e h s =
     sym (cond-true _ _ _ (lt-ltb (length old) (length (b ∷ bs)) (filed_full bs old rows count b rows' h s)))
+
+-- an insertion that came through or did not, and the answer that goes with it
+pub start_answer : (cs old rows : List KnownStart) (count n : ℕ) (c : KnownStart) (rows' : List KnownStart) (b : Bool) (e : Refusal) → Holds cs old rows count → Settled start_rank start_meets rows count c (cond b (Some n) None) rows' → cond b None (Some e) ≡ cond (ltb (length old) (offset_count (cs ++ c ∷ []))) (Some e) None
+start_answer cs old rows count n c rows' true e h s = start_room cs old rows count n c rows' e h s
+start_answer cs old rows count n c rows' false e h s = start_full cs old rows count c rows' e h s
+
+pub block_answer : (bs old rows : List Contribution) (count n : ℕ) (b : Contribution) (rows' : List Contribution) (o : Bool) (e : Refusal) → Filed bs old rows count → Settled contribution_rank contribution_meets rows count b (cond o (Some n) None) rows' → cond o None (Some e) ≡ cond (ltb (length old) (length (b ∷ bs))) (Some e) None
+block_answer bs old rows count n b rows' true e h s = block_room bs old rows count n b rows' e h s
+block_answer bs old rows count n b rows' false e h s = block_full bs old rows count b rows' e h s
 
 -- a table over rows that it has not touched yet
 pub holds_start : (old rows : List KnownStart) (count : ℕ) → rows ≡ old → count ≡ 0 → Holds [] old rows count

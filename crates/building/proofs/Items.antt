@@ -1,13 +1,15 @@
 -- One item more of a list that is asked by number. Assumes nothing.
-use Rattle.std.proofs.Common.{◌≡◌, ℕ, zero, suc, ◌+◌, ◌<◌, Bool, cond, List, [], ◌∷◌, ◌++◌, length, take, drop, Some, None, filter, Option, sym, refl, ap, ◌∙◌, add-one, arith}
+use Rattle.std.proofs.Common.{◌≡◌, ℕ, zero, suc, ◌+◌, ◌<◌, Bool, cond, List, [], ◌∷◌, ◌++◌, length, take, drop, Some, None, filter, Option, sym, refl, ap, ◌∙◌, add-one, arith, Ok, Err, Result}
 use Rattle.std.specs.List.{slice_get}
 use Rattle.std.proofs.lemmas.List.Elements.{filter-append}
-use Rattle.base.specs.declared.image.Ending.{Ending}
-use Rattle.base.specs.declared.image.Entry.TheVariants.{Item, End}
+use Rattle.base.specs.declared.image.FaultCode.{FaultCode}
+use Rattle.base.specs.Lists.{Ending, clean}
+use Rattle.base.specs.Refusals.{or_refusal}
+use Rattle.base.specs.declared.refusal.FaultyList.{FaultyList}
 use Rattle.base.specs.declared.refusal.Refusal.{Refusal}
 use Rattle.image.specs.Image.{entry}
 use Rattle.building.specs.Starts.{or_else}
-use Rattle.building.specs.Outcome.{first_refusal}
+use Rattle.building.specs.Outcome.{first_refusal, fault}
 
 some_is : {Y : Type 0} {a b : Y} → Some a ≡ Some b → a ≡ b
 some_is p = cc
@@ -49,15 +51,52 @@ module _ {X : Type 0} where
   end_take (y ∷ ys) zero e = absurd (none-some (sym e))
   end_take (y ∷ ys) (suc k) e = ap (λ l. y ∷ l) (end_take ys k e)
 
-  pub entry_item : (xs : List X) (end : Ending) (k : ℕ) (x : X) → entry xs end k ≡ Item x → slice_get xs k ≡ Some x
-  entry_item xs end k x =
-      let h : (o : Option X) → slice_get xs k ≡ o → entry xs end k ≡ Item x → o ≡ Some x = λ o. elim o as (λ v. slice_get xs k ≡ v → entry xs end k ≡ Item x → v ≡ Some x) [ None ↦ λ p q. (let z : ◌≡◌ {A = ℕ} 0 1 = cc in absurd (omega arith)) | Some y ↦ λ p q. cc ] in
-      h (slice_get xs k) refl
+  -- what an answer tells of the list: the item there, or that it ends there, and how
+  pub entry_item : (xs : List X) (end : Ending) (k : ℕ) (x : X) → entry xs end k ≡ Ok (Some x) → slice_get xs k ≡ Some x
+  entry_item xs end k x = entry_cases xs end k (slice_get xs k) refl
+    where
+      entry_cases : (xs : List X) (end : Ending) (k : ℕ) (o : Option X) → slice_get xs k ≡ o → entry xs end k ≡ Ok (Some x) → o ≡ Some x
+      entry_cases xs end k (Some y) p q = cc
+      entry_cases xs (Ok u) k None p q = (let z : ◌≡◌ {A = ℕ} 0 1 = cc in absurd (omega arith))
+      entry_cases xs (Err c) k None p q = (let z : ◌≡◌ {A = ℕ} 0 1 = cc in absurd (omega arith))
 
-  pub entry_end : (xs : List X) (end e : Ending) (k : ℕ) → entry xs end k ≡ End e → (slice_get xs k ≡ None) × (end ≡ e)
-  entry_end xs end e k =
-      let h : (o : Option X) → slice_get xs k ≡ o → entry xs end k ≡ End e → (o ≡ None) × (end ≡ e) = λ o. elim o as (λ v. slice_get xs k ≡ v → entry xs end k ≡ End e → (v ≡ None) × (end ≡ e)) [ None ↦ λ p q. (refl, cc) | Some y ↦ λ p q. (let z : ◌≡◌ {A = ℕ} 0 1 = cc in absurd (omega arith)) ] in
-      h (slice_get xs k) refl
+  pub entry_end : (xs : List X) (end : Ending) (k : ℕ) → entry xs end k ≡ Ok None → (slice_get xs k ≡ None) × (end ≡ clean)
+  entry_end xs end k = entry_cases xs end k (slice_get xs k) refl
+    where
+      entry_cases : (xs : List X) (end : Ending) (k : ℕ) (o : Option X) → slice_get xs k ≡ o → entry xs end k ≡ Ok None → (o ≡ None) × (end ≡ clean)
+      entry_cases xs end k (Some y) p q = (let z : ◌≡◌ {A = ℕ} 0 1 = cc in absurd (omega arith))
+      entry_cases xs (Ok u) k None p q = (refl, refl)
+      entry_cases xs (Err c) k None p q = (let z : ◌≡◌ {A = ℕ} 0 1 = cc in absurd (omega arith))
+
+  pub entry_fault : (xs : List X) (end : Ending) (k : ℕ) (code : FaultCode) → entry xs end k ≡ Err code → (slice_get xs k ≡ None) × (end ≡ Err code)
+  entry_fault xs end k code = entry_cases xs end k (slice_get xs k) refl
+    where
+      entry_cases : (xs : List X) (end : Ending) (k : ℕ) (o : Option X) → slice_get xs k ≡ o → entry xs end k ≡ Err code → (o ≡ None) × (end ≡ Err code)
+      entry_cases xs end k (Some y) p q = (let z : ◌≡◌ {A = ℕ} 0 1 = cc in absurd (omega arith))
+      entry_cases xs (Ok u) k None p q = (let z : ◌≡◌ {A = ℕ} 0 1 = cc in absurd (omega arith))
+      entry_cases xs (Err c) k None p q = (refl, cc)
+
+  -- the same where the fault is a refusal
+  pub refused_item : (list : FaultyList) (xs : List X) (end : Ending) (k : ℕ) (x : X) → or_refusal list (entry xs end k) ≡ Ok (Some x) → slice_get xs k ≡ Some x
+  refused_item list xs end k x e = entry_item xs end k x (given (entry xs end k) e)
+    where
+      given : (r : Result (Option X) FaultCode) → or_refusal list r ≡ Ok (Some x) → r ≡ Ok (Some x)
+      given (Ok o) p = cc
+      given (Err c) p = (let z : ◌≡◌ {A = ℕ} 0 1 = cc in absurd (omega arith))
+
+  pub refused_end : (list : FaultyList) (xs : List X) (end : Ending) (k : ℕ) → or_refusal list (entry xs end k) ≡ Ok None → (slice_get xs k ≡ None) × (fault list end ≡ None)
+  refused_end list xs end k e = let h = entry_end xs end k (given (entry xs end k) e) in (h.0, ap (fault list) h.1)
+    where
+      given : (r : Result (Option X) FaultCode) → or_refusal list r ≡ Ok None → r ≡ Ok None
+      given (Ok o) p = cc
+      given (Err c) p = (let z : ◌≡◌ {A = ℕ} 0 1 = cc in absurd (omega arith))
+
+  pub refused_fault : (list : FaultyList) (xs : List X) (end : Ending) (k : ℕ) (e : Refusal) → or_refusal list (entry xs end k) ≡ Err e → (slice_get xs k ≡ None) × (fault list end ≡ Some e)
+  refused_fault list xs end k e p = given (entry xs end k) refl p
+    where
+      given : (r : Result (Option X) FaultCode) → entry xs end k ≡ r → or_refusal list r ≡ Err e → (slice_get xs k ≡ None) × (fault list end ≡ Some e)
+      given (Ok o) q p = (let z : ◌≡◌ {A = ℕ} 0 1 = cc in absurd (omega arith))
+      given (Err c) q p = let h = entry_fault xs end k c q in (h.0, ap (fault list) h.1 ∙ cc)
 
   -- a filter, one item on
   pub kept_more : (p : X → Bool) (xs : List X) (k : ℕ) (x : X) → slice_get xs k ≡ Some x → filter p (take (k + 1) xs) ≡ filter p (take k xs) ++ cond (p x) (x ∷ []) []

@@ -1,5 +1,5 @@
 -- Building has one outcome, and which step gives it. Assumes nothing.
-use Rattle.std.proofs.Common.{◌≡◌, ℕ, true, false, cond, ltb, List, ◌++◌, length, take, is_ok, IfOk, Some, None, Ok, Err, Option, Result, sym, ap, ◌∙◌, subst, arith}
+use Rattle.std.proofs.Common.{◌≡◌, ℕ, cond, ltb, List, ◌++◌, length, take, IfOk, Some, None, Ok, Err, Option, Result, sym, ap, ◌∙◌, subst, arith}
 use Rattle.base.specs.declared.image.Section.{Section}
 use Rattle.base.specs.declared.context.KnownStart.{KnownStart}
 use Rattle.base.specs.declared.context.Contribution.{Contribution}
@@ -86,10 +86,6 @@ read-symbols i start_rows contribution_rows sections o same e =
 pub read_ends : (i : Image) (start_rows contribution_rows : ℕ) (sections : List Section) (o : Option Refusal) → sections ≡ i.sections → o ≡ cond (ltb start_rows (offset_count ((all_symbols i ++ contribution_starts (all_kept i)) ++ section_ends 1 sections))) (Some (StartTableFull AddSectionEnds)) None → o ≡ ends_refused i start_rows contribution_rows
 read_ends i start_rows contribution_rows sections o same e =
     e ∙ ap (λ ss. cond (ltb start_rows (offset_count ((all_symbols i ++ contribution_starts (all_kept i)) ++ section_ends 1 ss))) (Some (StartTableFull AddSectionEnds)) None) same
-
--- a call that answered a refusal has not answered anything else
-pub never_ok : {X : Type 0} (r : Result X Refusal) (y : Refusal) → r ≡ Err y → is_ok r ≡ true → ⊥
-never_ok r y p q = let e : is_ok r ≡ false = ap is_ok p in let z : ◌≡◌ {A = ℕ} 0 1 = cc in omega arith
 
 pub none_made : {X : Type 0} (r : Result X Refusal) (y : Refusal) (P : X → Type 0) → r ≡ Err y → IfOk r P
 none_made r y P e = subst (λ v. IfOk v P) (sym e) tt

@@ -10,7 +10,8 @@ use Rattle.base.specs.declared.context.Contribution.{Contribution}
 use Rattle.base.specs.declared.refusal.Step.TheVariants.{ReadContributions}
 use Rattle.base.specs.declared.refusal.Refusal.{Refusal}
 use Rattle.base.specs.declared.refusal.Refusal.TheVariants.{StartTableFull, ContributionTableFull, ContributionOutside, Unordered}
-use Rattle.building.specs.Starts.{or_else, unnamed_start, keeps, kept, contribution_starts, offset_count}
+use Rattle.base.specs.Rows.{unnamed_start}
+use Rattle.building.specs.Starts.{or_else, keeps, kept, contribution_starts, offset_count}
 use Rattle.building.specs.Blocks.{end_of, block, joins, grown, more, blocks}
 use Rattle.building.specs.Outcome.{top, closes, unordered, verdict, item_refusal, all_symbols, contribution_refusal}
 use Rattle.building.specs.Filling.{Holds, Filed, Reading, Proper}

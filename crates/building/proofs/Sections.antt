@@ -1,33 +1,14 @@
 -- Sections by number, and the ends that they add. Assumes nothing.
-use Rattle.std.proofs.Common.{◌≡◌, ℕ, suc, ◌+◌, ◌-◌, ◌<◌, ◌≤◌, true, false, cond, ltb, List, [], ◌∷◌, ◌++◌, length, get_or, take, drop, set, Some, None, sym, ap, ◌∙◌, append_assoc, append-nil, arith, take-append-drop}
+use Rattle.std.proofs.Common.{◌≡◌, ℕ, suc, ◌+◌, true, false, cond, ltb, List, [], ◌∷◌, ◌++◌, length, take, drop, Some, None, sym, ap, ◌∙◌, append_assoc, append-nil, arith, take-append-drop}
 use Rattle.std.specs.List.{slice_get}
-use Rattle.std.proofs.lemmas.List.{length-take, length-take-le, get_or-take, take_more_set}
-use Rattle.std.proofs.lemmas.Option.{slice_get-get_or, slice_get_past}
-use Rattle.std.proofs.lemmas.Bool.{cond-true, cond-false, eq-eqb, ne_eqb}
+use Rattle.std.proofs.lemmas.List.{length-take-le}
 use Rattle.base.specs.declared.image.Section.{Section}
 use Rattle.base.specs.declared.context.KnownStart.{KnownStart}
 use Rattle.base.specs.declared.refusal.Refusal.{Refusal}
-use Rattle.building.specs.Starts.{marked, executable, unnamed_start, section_ends, offset_count}
+use Rattle.base.specs.Rows.{unnamed_start}
+use Rattle.building.specs.Starts.{section_ends, offset_count}
 use Rattle.building.proofs.Items.{item_take, item_within}
 use Rattle.building.proofs.Symbols.{full_with-more}
-
-module _ (rows : List Section) (count n : ℕ) where
-  pub executable_zero : n ≡ 0 → false ≡ executable (take count rows) n
-  executable_zero e = sym (cond-true _ _ _ (eq-eqb n 0 e))
-
-  pub executable-past : count < n → false ≡ executable (take count rows) n
-  executable-past l =
-      let far : length (take count rows) ≤ n - 1 = (let k = length-take count rows in omega arith) in
-      sym (cond-false _ _ _ (ne_eqb n 0 (λ e. omega arith)) ∙ ap marked (slice_get_past (take count rows) (n - 1) far))
-
-  pub executable-at : (d : Section) → 0 < n → n ≤ count → count ≤ length rows → (get_or rows (n - 1) d).executable ≡ executable (take count rows) n
-  executable-at d l m w =
-      let near : n - 1 < length (take count rows) = (let k = length-take-le count rows w in omega arith) in
-      sym (cond-false _ _ _ (ne_eqb n 0 (λ e. omega arith)) ∙ ap marked (slice_get-get_or (take count rows) (n - 1) d near ∙ ap Some (get_or-take count rows (n - 1) d (omega arith))))
-
--- one section more in the array
-pub sections-more : (rows sections : List Section) (k : ℕ) (s : Section) → k < length rows → take k rows ≡ take k sections → slice_get sections k ≡ Some s → take (k + 1) (set rows k s) ≡ take (k + 1) sections
-sections-more rows sections k s l e i = take_more_set rows k s l ∙ ap (λ xs. xs ++ s ∷ []) e ∙ sym (item_take sections k s i)
 
 ends_append : (n : ℕ) (xs : List Section) (x : Section) → section_ends n (xs ++ x ∷ []) ≡ section_ends n xs ++ cond x.executable (unnamed_start (record { section = n + length xs; offset = x.size }) ∷ []) []
 ends_append n [] x =
@@ -39,10 +20,6 @@ ends_append n (y ∷ ys) x =
 pub ends_more : (sections : List Section) (k : ℕ) (s : Section) → slice_get sections k ≡ Some s → length (take k sections) ≡ k → section_ends 1 (take (k + 1) sections) ≡ section_ends 1 (take k sections) ++ cond s.executable (unnamed_start (record { section = k + 1; offset = s.size }) ∷ []) []
 ends_more sections k s i l =
     ap (section_ends 1) (item_take sections k s i) ∙ ends_append 1 (take k sections) s ∙ ap (λ m. section_ends 1 (take k sections) ++ cond s.executable (unnamed_start (record { section = m; offset = s.size }) ∷ []) []) (omega arith)
-
-pub used-at : (rows : List Section) (count k : ℕ) (d : Section) → k < count → count ≤ length rows → slice_get (take count rows) k ≡ Some (get_or rows k d)
-used-at rows count k d l w =
-    slice_get-get_or (take count rows) k d (let e = length-take-le count rows w in omega arith) ∙ ap Some (get_or-take count rows k d l)
 
 ends_both : (n : ℕ) (xs ys : List Section) → section_ends n (xs ++ ys) ≡ section_ends n xs ++ section_ends (n + length xs) ys
 ends_both n [] ys = ap (λ m. section_ends m ys) (omega arith)

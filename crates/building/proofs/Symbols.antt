@@ -8,7 +8,8 @@ use Rattle.base.specs.declared.image.Section.{Section}
 use Rattle.base.specs.declared.image.PublicSymbol.{PublicSymbol}
 use Rattle.base.specs.declared.context.KnownStart.{KnownStart}
 use Rattle.base.specs.declared.refusal.Refusal.{Refusal}
-use Rattle.building.specs.Starts.{or_else, executable, named_start, symbol_starts, offset_count}
+use Rattle.base.specs.Rows.{named_start}
+use Rattle.building.specs.Starts.{or_else, executable, symbol_starts, offset_count}
 use Rattle.building.specs.Filling.{Holds}
 use Rattle.building.proofs.Starts.{count_grows}
 use Rattle.building.proofs.Items.{kept_more}

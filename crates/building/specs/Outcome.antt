@@ -2,10 +2,10 @@
 use Rattle.std.specs.Prelude.{◌≡◌, ℕ, ◌+◌, Bool, false, cond, not, ◌&&◌, ◌||◌, List, [], ◌∷◌, ◌++◌, length, take, Some, None, Ok, Err, Option, Result, nat_le, nat_lt}
 use Rattle.base.specs.declared.image.Section.{Section}
 use Rattle.base.specs.declared.image.SectionContribution.{SectionContribution}
-use Rattle.base.specs.declared.image.Ending.{Ending}
-use Rattle.base.specs.declared.image.Ending.TheVariants.{Clean, Fault as Faulty}
+use Rattle.base.specs.Lists.{Ending}
 use Rattle.base.specs.declared.context.KnownStart.{KnownStart}
 use Rattle.base.specs.declared.context.Contribution.{Contribution}
+use Rattle.base.specs.declared.refusal.Step.{Step}
 use Rattle.base.specs.declared.refusal.Step.TheVariants.{ReadPublicSymbols, ReadContributions, AddSectionEnds}
 use Rattle.base.specs.declared.refusal.FaultyList.{FaultyList}
 use Rattle.base.specs.declared.refusal.FaultyList.TheVariants.{PublicSymbols, Contributions}
@@ -28,8 +28,20 @@ first_refusal refuses k [] = None
 first_refusal refuses k (x ∷ xs) = or_else (refuses k x) (first_refusal refuses (k + 1) xs)
 
 abbrev pub fault : FaultyList → Ending → Option Refusal
-fault list Clean = None
-fault list (Faulty code) = Some (Fault list code)
+fault list (Ok u) = None
+fault list (Err code) = Some (Fault list code)
+
+-- starts that a table of so many rows cannot hold
+abbrev pub starts_full : ℕ → List KnownStart → Step → Option Refusal
+starts_full rows cs step = cond (nat_lt rows (offset_count cs)) (Some (StartTableFull step)) None
+
+-- the same of blocks
+abbrev pub blocks_full : ℕ → List Contribution → Option Refusal
+blocks_full rows bs = cond (nat_lt rows (length bs)) (Some ContributionTableFull) None
+
+-- a contribution, at number k, that ends above the top
+abbrev pub outside : ℕ → SectionContribution → Option Refusal
+outside k c = cond (nat_lt top (end_of c)) (Some (ContributionOutside k)) None
 
 -- a section past the 96th, or one that ends above the top
 abbrev pub section_refusal : ℕ → Section → Option Refusal
@@ -60,7 +72,7 @@ abbrev pub verdict : ℕ → ℕ → ℕ → List Contribution → ℕ → Secti
 verdict start_rows contribution_rows offsets bs k c =
     or_else (cond (nat_lt start_rows offsets) (Some (StartTableFull ReadContributions)) None)
     (or_else (cond (closes bs c && nat_lt contribution_rows (length bs)) (Some ContributionTableFull) None)
-    (or_else (cond (nat_lt top (end_of c)) (Some (ContributionOutside k)) None)
+    (or_else (outside k c)
     (cond (unordered bs c) (Some (Unordered k c.«module» c.offset.section)) None)))
 
 -- the same after the starts of the public symbols and the contributions in cs
@@ -78,17 +90,17 @@ module _ (i : Image) (start_rows contribution_rows : ℕ) where
 
   abbrev pub symbols_refused : Option Refusal
   symbols_refused =
-      or_else (cond (nat_lt start_rows (offset_count (all_symbols i))) (Some (StartTableFull ReadPublicSymbols)) None)
+      or_else (starts_full start_rows (all_symbols i) ReadPublicSymbols)
       (fault PublicSymbols i.symbols_end)
 
   abbrev pub contributions_refused : Option Refusal
   contributions_refused =
       or_else (first_refusal contribution_refusal 0 i.contributions)
       (or_else (fault Contributions i.contributions_end)
-      (cond (nat_lt contribution_rows (length (blocks (all_kept i)))) (Some ContributionTableFull) None))
+      (blocks_full contribution_rows (blocks (all_kept i))))
 
   abbrev pub ends_refused : Option Refusal
-  ends_refused = cond (nat_lt start_rows (offset_count (all_starts i))) (Some (StartTableFull AddSectionEnds)) None
+  ends_refused = starts_full start_rows (all_starts i) AddSectionEnds
 
   -- the step that is met first decides
   abbrev pub refusal : List Contribution → Option Refusal

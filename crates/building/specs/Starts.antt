@@ -2,7 +2,7 @@
 use Rattle.std.specs.Prelude.{◌≡◌, ℕ, ◌+◌, ◌-◌, Bool, false, cond, not, ◌&&◌, List, [], ◌∷◌, ◌++◌, map, drop, is_some, Some, None, filter, Option, ◌==◌}
 use Rattle.std.specs.List.{slice_get}
 use Rattle.order.specs.Rank.{same, Rises, first, at}
-use Rattle.base.specs.Rows.{offset_rank, start_rank, named}
+use Rattle.base.specs.Rows.{offset_rank, start_rank, named, named_start, unnamed_start}
 use Rattle.base.specs.declared.image.SectionOffset.{SectionOffset}
 use Rattle.base.specs.declared.image.Section.{Section}
 use Rattle.base.specs.declared.image.SectionContribution.{SectionContribution}
@@ -16,12 +16,6 @@ marked (Some s) = s.executable
 -- section numbers count from 1; one that no section has is not executable
 abbrev pub executable : List Section → ℕ → Bool
 executable sections n = cond (n == 0) false (marked (slice_get sections (n - 1)))
-
-abbrev pub named_start : PublicSymbol → KnownStart
-named_start p = record { offset = p.offset; name = Some p.name }
-
-abbrev pub unnamed_start : SectionOffset → KnownStart
-unnamed_start o = record { offset = o; name = None }
 
 -- the starts of the public symbols: those in executable sections
 abbrev pub symbol_starts : List Section → List PublicSymbol → List KnownStart

@@ -1,2 +1,2 @@
-// What a context is built from an image: definitions in specs/, and their laws in proofs/. The code stands in `context`.
+// What a context is built from an image: definitions in specs/, and their laws in proofs/. The code stands in `sections`, `starts`, `steps` and `context`.
 #![tactic(auto)]

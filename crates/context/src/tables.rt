@@ -1,11 +1,12 @@
 // The tables that a caller lends, and the context that stands on them.
-ghost use Rattle.std.specs.Prelude.{◌≡◌, ◌≤◌, length, take, filter};
-ghost use Rattle.order.specs.Rank.{Rises, InOrder, Pairwise};
-ghost use Rattle.base.specs.Rows.{start_rank, contribution_rank, named};
+ghost use Rattle.std.specs.Prelude.{◌≡◌, length, take, filter};
+ghost use Rattle.order.specs.Rank.{Rises, Pairwise};
+ghost use Rattle.base.specs.Rows.{start_rank, named};
 ghost use Rattle.building.specs.Blocks.{apart};
 
 use base::context::{Contribution, KnownStart};
 use sections::Sections;
+use table::FilledTable;
 
 // What a caller hands over for building.
 #[derive(Drop)]
@@ -14,20 +15,15 @@ pub struct Tables<'a> {
     pub contributions: &'a mut [Contribution],
 }
 
-// The first `start_count` starts and the first `contribution_count` contributions are used. The starts rise, and the
-// contributions are in order, each lying before the next.
+// The starts rise, and each contribution lies before the next. The tables have whole lent slices, so that building can say what the rows past
+// the used ones hold.
 #[derive(Drop)]
 pub struct Context<'a> {
     pub sections: Sections,
-    pub starts: &'a [KnownStart],
-    pub start_count: usize,
-    pub contributions: &'a [Contribution],
-    pub contribution_count: usize,
+    pub starts: FilledTable<'a, KnownStart>,
+    pub contributions: FilledTable<'a, Contribution>,
     pub named_count: usize,
-    ghost few_starts: { start_count ≤ length starts.now },
-    ghost few_contributions: { contribution_count ≤ length contributions.now },
-    ghost rises: { Rises start_rank (take start_count starts.now) },
-    ghost ordered: { InOrder contribution_rank (take contribution_count contributions.now) },
-    ghost apart_all: { Pairwise apart (take contribution_count contributions.now) },
-    ghost counted: { named_count ≡ length (filter named (take start_count starts.now)) },
+    ghost rises: { Rises start_rank (take starts.count starts.rows.now) },
+    ghost apart_all: { Pairwise apart (take contributions.count contributions.rows.now) },
+    ghost counted: { named_count ≡ length (filter named (take starts.count starts.rows.now)) },
 }

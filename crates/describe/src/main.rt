@@ -2,12 +2,13 @@
 // word or two and its numbers, all decimal; an offset is two numbers, and so are a name's place and a part of a table.
 #![tactic(auto)]
 
-ghost use Rattle.std.specs.Prelude.{◌≡◌, ◌<◌, length};
+ghost use Rattle.std.specs.Prelude.{length};
+ghost use Rattle.std.specs.Iterator.{at_most};
 
 mod dump;
-mod shown;
+mod parts;
+mod row;
 
-use description::mistake::ReadError;
 use description::read_description;
 use dump::write_description;
 use std::alloc::{AllocError, Global};
@@ -30,34 +31,35 @@ fn run(rt: &HostRuntime) -> anyhow::Result<()> {
 }
 
 fn write_all(heap: Global, out: &mut String, input: &[u8]) -> Result<(), AllocError> {
-    let mut rest = input;
-    while !rest.is_empty() {
-        let (one, after) = first_of(rest);
-        write_one(heap, out, one)?;
+    for text in Descriptions(input) {
+        write_one(heap, out, text)?;
         out.push_str("%\n")?;
-        rest = after;
     }
     Ok(())
 }
 
-fn write_one(heap: Global, out: &mut String, input: &[u8]) -> Result<(), AllocError> {
-    match read_description(heap, input) {
+fn write_one(heap: Global, out: &mut String, text: &[u8]) -> Result<(), AllocError> {
+    match read_description(heap, text) {
         Ok(description) => write_description(out, &description),
-        Err(error) => write_error(out, error),
+        Err(error) => writeln!(out, "{error}"),
     }
 }
 
-fn write_error(out: &mut String, error: ReadError) -> Result<(), AllocError> {
-    writeln!(out, "{error}")
-}
+// The descriptions that an input has. A line's end after the `%` is part of neither.
+#[derive(Drop)]
+struct Descriptions<'a>(&'a [u8]);
 
-// A line's end after the `%` is part of neither.
-fn first_of(input: &[u8]) -> (&[u8], &[u8])
-    ensures { 0 < length input.now → length result.1.now < length input.now }
-{
-    match cut(input, b'%') {
-        Some((one, [b'\n', after @ ..])) => (one, after),
-        Some((one, after)) => (one, after),
-        None => (input, &input[input.len()..]),
+impl<'a> Iterator for Descriptions<'a> {
+    type Item = &'a [u8];
+
+    ghost remaining = { λ s. at_most (length s.0.now) };
+
+    fn next(&mut self) -> Option<&'a [u8]> {
+        if self.0.is_empty() {
+            return None;
+        }
+        let (text, rest) = cut(self.0, b'%').unwrap_or((self.0, &[]));
+        self.0 = rest.strip_prefix(b"\n").unwrap_or(rest);
+        Some(text)
     }
 }

@@ -1,8 +1,10 @@
 -- How the lists of a description grow. Assumes nothing.
-use Rattle.std.proofs.Common.{◌≡◌, ℕ, ◌^◌, ◌<◌, cond, List, [], ◌∷◌, ◌++◌, length, Some, None, refl, ap, ◌∙◌, arith, lt-ltb}
+use Rattle.std.proofs.Common.{◌≡◌, ◌^◌, ◌<◌, List, [], ◌∷◌, ◌++◌, length, Some, refl, ap, ◌∙◌}
 use Rattle.std.specs.Option.{option_map}
-use Rattle.words.specs.Quotes.{unquoted}
-use Rattle.description.specs.Lists.{short, appended, split_last}
+use Rattle.description.specs.declared.row.ModulePart.{ModulePart}
+use Rattle.description.specs.Drafts.{ModuleLists, part_pushed, told_with, module_with, module_grown}
+use Rattle.description.specs.Lists.{pushed, split_last}
+use Rattle.description.proofs.Options.{at_mapped, at-then, short-short}
 
 split_push : {X : Type 0} (xs : List X) (x : X) → split_last (xs ++ x ∷ []) ≡ Some (xs, x)
 split_push [] x = refl
@@ -12,10 +14,10 @@ split_push (y ∷ z ∷ zs) x = ap (option_map (λ q. (y ∷ q.0, q.1))) (split_
 pub split_end : {X : Type 0} (xs ys : List X) (x : X) → xs ≡ ys ++ x ∷ [] → split_last xs ≡ Some (ys, x)
 split_end xs ys x e = ap split_last e ∙ split_push ys x
 
-pub is_short : {X : Type 0} (xs : List X) → length xs < 2 ^ 32 → short xs ≡ Some xs
-is_short xs h = ap (λ b. cond b (Some xs) None) (lt-ltb (length xs) (2 ^ 32) h)
+-- a part more of the newest module: few modules, and the part stands in the lists
+abbrev Grown : ModulePart → ModuleLists → ModuleLists → Type 0
+Grown p a b = (length b.modules < 2 ^ 32) × (part_pushed p a.parts ≡ Some b.parts)
 
-pub is_appended : (raw old bs new : List ℕ) (s n : ℕ) → unquoted raw ≡ Some bs → new ≡ old ++ bs → s ≡ length old → n ≡ length bs → length new < 2 ^ 32 → appended raw old ≡ Some (new, record { start = s; length = n })
-is_appended raw old bs new s n e grown start size few =
-    let fits : length (old ++ bs) < 2 ^ 32 = omega (arith, ap length grown) in
-    rw (e, is_short (old ++ bs) fits, grown, start, size) refl
+pub module-grown : (p : ModulePart) (a b : ModuleLists) → module_grown p a ≡ Some b → (length b.modules < 2 ^ 32) × (part_pushed p a.parts ≡ Some b.parts)
+module-grown p a b e =
+    at-then (Grown p a) (split_last a.modules) _ b e (λ q _ f. at-then (Grown p a) (told_with p a.told) _ b f (λ t _ g. at-then (Grown p a) (pushed q.0 (module_with p q.1)) _ b g (λ ms d k. at_mapped (Grown p a) _ (part_pushed p a.parts) b k (λ ps m. (short-short _ ms d, m)))))

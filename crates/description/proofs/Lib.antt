@@ -1,7 +1,7 @@
-mod Growing
-mod Options
-mod Saying
-mod Shortness
-mod Sizes
-mod Naming
-mod Soundness
+pub mod Growing
+pub mod Options
+pub mod Saying
+pub mod Shortness
+pub mod Sizes
+pub mod Naming
+pub mod Soundness

@@ -14,9 +14,6 @@ said-append : (rs ss : List RowLine) (a : Lists) → said (rs ++ ss) a ≡ then 
 said-append [] ss a = refl
 said-append (r ∷ rs) ss a = regroup (line_said r a) (said rs) (said ss) (said (rs ++ ss)) (said-append rs ss)
 
-pub says_nothing : (a : Lists) → Says a a
-says_nothing a = record { rows = []; fitting = tt; whole = refl }
-
 pub says_row : (r : RowLine) (a b : Lists) → Fitting r.row → line_said r a ≡ Some b → Says a b
 says_row r a b f e = record { rows = r ∷ []; fitting = (f, tt); whole = ap (λ o. then o (said [])) e }
 

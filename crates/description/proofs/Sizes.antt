@@ -3,56 +3,40 @@ use Rattle.std.proofs.Common.{◌≡◌, ℕ, ◌^◌, ◌≤◌, List, [], ◌�
 use Rattle.std.specs.List.{AllByRecursion}
 use Rattle.base.specs.declared.image.TextPart.{TextPart}
 use Rattle.description.specs.declared.row.ImageRow.{ImageRow}
-use Rattle.description.specs.declared.row.ImageRow.TheVariants.{Section, Public, Contribution, PublicsEnd, ContributionsEnd, StartTable, ContributionTable}
+use Rattle.description.specs.declared.row.ImageRow.TheVariants.{Public, StartTable, ContributionTable}
 use Rattle.description.specs.declared.row.Line.{Line as RowLine}
 use Rattle.description.specs.declared.row.Row.{Row}
-use Rattle.description.specs.declared.row.Row.TheVariants.{Text, Image, Module, Part, Hide, Ask}
+use Rattle.description.specs.declared.row.Row.TheVariants.{Text, Image}
 use Rattle.description.specs.Described.{Room}
-use Rattle.description.specs.Drafts.{ImageLists, Lists, image_added, module_opened, module_grown, row_added, line_said, said, with_text}
-use Rattle.description.specs.Lists.{pushed, appended, once}
+use Rattle.description.specs.Drafts.{ImageLists, Lists, image_added, row_added, line_said, said, with_text}
+use Rattle.description.specs.Lists.{appended, once}
 use Rattle.description.specs.Rows.{FittingImage, Fitting, image_named, named}
-use Rattle.description.proofs.Options.{never, at_some, at_mapped, at-then}
+use Rattle.description.proofs.Options.{at_some, at_mapped, at-then}
 
 abbrev pub Roomy : ImageLists → Type 0
 Roomy a = Room a.said.start_rows × Room a.said.contribution_rows
 
 once-room : (o : Option ℕ) (n : ℕ) (p : Option ℕ) → once o n ≡ Some p → n ≤ 2 ^ 24 → Room p
 once-room None n p e h = at_some Room (Some n) p e h
-once-room (Some m) n p e h = never p e
+once-room (Some m) n p e h = absurd cc
 
 image-room : (r : ImageRow) (a b : ImageLists) → image_added r a ≡ Some b → FittingImage r → Roomy a → Roomy b
-image-room (Section s) a b e f h = at_mapped Roomy _ (pushed a.sections s) b e (λ x p. h)
-image-room (Public s) a b e f h = at_mapped Roomy _ (pushed a.symbols s) b e (λ x p. h)
-image-room (Contribution s) a b e f h = at_mapped Roomy _ (pushed a.contributions s) b e (λ x p. h)
-image-room (PublicsEnd s) a b e f h = at_mapped Roomy _ _ b e (λ x p. h)
-image-room (ContributionsEnd s) a b e f h = at_mapped Roomy _ _ b e (λ x p. h)
-image-room (StartTable n) a b e f h = at_mapped Roomy _ (once a.said.start_rows n) b e (λ x p. (once-room a.said.start_rows n x p f, h.1))
-image-room (ContributionTable n) a b e f h = at_mapped Roomy _ (once a.said.contribution_rows n) b e (λ x p. (h.0, once-room a.said.contribution_rows n x p f))
+image-room (StartTable n) a b e f h = at_mapped Roomy _ _ b e (λ x p. (once-room a.said.start_rows n x p f, h.1))
+image-room (ContributionTable n) a b e f h = at_mapped Roomy _ _ b e (λ x p. (h.0, once-room a.said.contribution_rows n x p f))
+image-room r a b e f h = at_mapped Roomy _ _ b e (λ x p. h)
 
 row_room : (r : Row) (a b : Lists) → row_added r a ≡ Some b → Fitting r → Roomy a.image → Roomy b.image
 row_room Text a b e f h = at_some (λ z. Roomy z.image) a b e h
-row_room (Image r) a b e f h = at_mapped (λ z. Roomy z.image) _ (image_added r a.image) b e (λ x p. image-room r a.image x p f h)
-row_room (Module s) a b e f h = at_mapped (λ z. Roomy z.image) _ (module_opened s a.modules) b e (λ x p. h)
-row_room (Part s) a b e f h = at_mapped (λ z. Roomy z.image) _ (module_grown s a.modules) b e (λ x p. h)
-row_room (Hide n) a b e f h = at_mapped (λ z. Roomy z.image) _ (pushed a.hidden n) b e (λ x p. h)
-row_room (Ask q) a b e f h = at_mapped (λ z. Roomy z.image) _ (pushed a.questions q) b e (λ x p. h)
+row_room (Image r) a b e f h = at_mapped (λ z. Roomy z.image) _ _ b e (λ x p. image-room r a.image x p f h)
+row_room r a b e f h = at_mapped (λ z. Roomy z.image) _ _ b e (λ x p. h)
 
 image_fits : (n : TextPart) (r : ImageRow) → FittingImage r → FittingImage (image_named n r)
-image_fits n (Section s) f = tt
 image_fits n (Public s) f = tt
-image_fits n (Contribution s) f = tt
-image_fits n (PublicsEnd s) f = tt
-image_fits n (ContributionsEnd s) f = tt
-image_fits n (StartTable s) f = f
-image_fits n (ContributionTable s) f = f
+image_fits n r f = f
 
 row_fits : (n : TextPart) (r : Row) → Fitting r → Fitting (named n r)
-row_fits n Text f = tt
 row_fits n (Image r) f = image_fits n r f
-row_fits n (Module s) f = tt
-row_fits n (Part s) f = tt
-row_fits n (Hide m) f = tt
-row_fits n (Ask q) f = tt
+row_fits n r f = tt
 
 line_room : (o : Option _) (r : Row) (a b : Lists) → line_said (record { row = r; quoted = o }) a ≡ Some b → Fitting r → Roomy a.image → Roomy b.image
 line_room None r a b e f h = row_room r a b e f h

@@ -3,12 +3,13 @@ use Rattle.description.specs.declared.draft.Draft.{Draft}
 use Rattle.description.specs.Described.{described, Short, Sound}
 use Rattle.description.specs.Drafts.{nothing, lists, Says}
 use Rattle.description.proofs.Naming.{said-names, nothing-names}
+use Rattle.description.proofs.Saying.{says_more}
 use Rattle.description.proofs.Shortness.{said-short, nothing-short}
 use Rattle.description.proofs.Sizes.{said-room}
 use Rattle.std.proofs.Common.{refl}
 
-pub short-lists : (d : Draft) → Says nothing (lists d) → Short (lists d)
-short-lists d s = said-short s.rows nothing (lists d) s.whole nothing-short
+short_lists : (d : Draft) → Says nothing (lists d) → Short (lists d)
+short_lists d s = said-short s.rows nothing (lists d) s.whole nothing-short
 
 pub sound : (d : Draft) → Says nothing (lists d) → Sound (described d)
 sound d s = record {
@@ -21,6 +22,8 @@ sound d s = record {
   start_rows = refl;
   contribution_rows = refl;
   room = said-room s.rows nothing (lists d) s.whole s.fitting (tt, tt);
-  short = short-lists d s;
+  short = short_lists d s;
   names = λ q. said-names s.rows nothing (lists d) s.whole q nothing-names;
 }
+
+pub ruleset drafts = (says_more, sound)

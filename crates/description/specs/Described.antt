@@ -2,7 +2,7 @@
 use Rattle.std.specs.Prelude.{◌≡◌, ℕ, ◌+◌, ◌^◌, ◌<◌, ◌≤◌, List, length, IfSome, Some, vec_items, vec_len, Option}
 use Rattle.std.specs.Option.{unwrap_or}
 use Rattle.std.specs.List.{AllByRecursion}
-use Rattle.base.specs.declared.image.Ending.TheVariants.{Clean}
+use Rattle.base.specs.Lists.{clean}
 use Rattle.description.specs.declared.Description.{Description}
 use Rattle.description.specs.declared.draft.Draft.{Draft}
 use Rattle.description.specs.declared.row.Line.{Line}
@@ -21,11 +21,11 @@ abbrev pub described : Draft → Description
 described d = record {
   text = d.text;
   image = d.image.tables;
-  symbols_end = unwrap_or d.image.said.symbols_end Clean;
-  contributions_end = unwrap_or d.image.said.contributions_end Clean;
+  symbols_end = unwrap_or d.image.said.symbols_end clean;
+  contributions_end = unwrap_or d.image.said.contributions_end clean;
   start_rows = unwrap_or d.image.said.start_rows (starts_at_most d.image.tables);
   contribution_rows = unwrap_or d.image.said.contribution_rows (vec_len d.image.tables.contributions);
-  modules = record { modules = d.modules.modules; parts = d.modules.parts };
+  modules = d.modules.tables;
   hidden = d.hidden;
   questions = d.questions;
 }
@@ -72,8 +72,8 @@ pub record Sound (d : Description) : Type 0 where
   pub once : Said
   pub told : Told
   pub whole : said rows nothing ≡ Some (lists_of d once told)
-  pub symbols_end : d.symbols_end ≡ unwrap_or once.symbols_end Clean
-  pub contributions_end : d.contributions_end ≡ unwrap_or once.contributions_end Clean
+  pub symbols_end : d.symbols_end ≡ unwrap_or once.symbols_end clean
+  pub contributions_end : d.contributions_end ≡ unwrap_or once.contributions_end clean
   pub start_rows : d.start_rows ≡ unwrap_or once.start_rows (starts_at_most d.image)
   pub contribution_rows : d.contribution_rows ≡ unwrap_or once.contribution_rows (vec_len d.image.contributions)
   pub room : Room once.start_rows × Room once.contribution_rows

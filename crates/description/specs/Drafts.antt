@@ -1,9 +1,8 @@
 -- What a row adds to a description. Assumes nothing.
-use Rattle.std.specs.Prelude.{◌≡◌, ℕ, ◌^◌, ◌<◌, true, false, cond, List, [], ◌∷◌, Some, None, vec_items, vec_len, Option}
+use Rattle.std.specs.Prelude.{◌≡◌, ℕ, true, false, cond, List, [], ◌∷◌, Some, None, vec_items, Option}
 use Rattle.std.specs.Option.{option_map}
 use Rattle.std.specs.List.{AllByRecursion}
-use Rattle.base.specs.declared.image.Ending.{Ending}
-use Rattle.base.specs.declared.image.Ending.TheVariants.{Clean}
+use Rattle.base.specs.Lists.{Ending, clean}
 use Rattle.base.specs.declared.image.PublicSymbol.{PublicSymbol}
 use Rattle.base.specs.declared.image.Section.{Section}
 use Rattle.base.specs.declared.image.SectionContribution.{SectionContribution}
@@ -30,9 +29,8 @@ use Rattle.description.specs.declared.row.Row.{Row}
 use Rattle.description.specs.declared.row.Row.TheVariants.{Text, Image, Module, Part, Hide, Ask}
 use Rattle.description.specs.declared.said.Said.{Said}
 use Rattle.description.specs.declared.said.Told.{Told}
-use Rattle.description.specs.declared.tables.LineTables.{LineTables}
+use Rattle.description.specs.declared.tables.ListTables.{ListTables}
 use Rattle.description.specs.declared.tables.PartTables.{PartTables}
-use Rattle.description.specs.declared.tables.SiteTables.{SiteTables}
 use Rattle.description.specs.Lists.{then, pushed, appended, once, split_last, grown, part_at}
 use Rattle.description.specs.Rows.{Fitting, named}
 
@@ -113,11 +111,8 @@ longer_site l = record { site = l.site; start = l.start; rows = grown l.rows; en
 abbrev pub longer_lines : LineList → LineList
 longer_lines l = record { start = l.start; rows = grown l.rows; ending = l.ending }
 
-abbrev pub site_lists : SiteTables → Parted SiteList SiteRow
-site_lists t = record { lists = vec_items t.lists; rows = vec_items t.rows }
-
-abbrev pub line_lists : LineTables → Parted LineList LineRow
-line_lists t = record { lists = vec_items t.lists; rows = vec_items t.rows }
+abbrev pub parted : {L R : Type 0} → ListTables L R → Parted L R
+parted t = record { lists = vec_items t.lists; rows = vec_items t.rows }
 
 -- what the modules have parts of
 pub record PartLists : Type 0 where
@@ -130,7 +125,7 @@ abbrev pub parts_nothing : PartLists
 parts_nothing = record { symbols = []; files = []; sites = parted_nothing; lines = parted_nothing }
 
 abbrev pub part_lists : PartTables → PartLists
-part_lists t = record { symbols = vec_items t.symbols; files = vec_items t.files; sites = site_lists t.sites; lines = line_lists t.lines }
+part_lists t = record { symbols = vec_items t.symbols; files = vec_items t.files; sites = parted t.sites; lines = parted t.lines }
 
 abbrev with_symbols : PartLists → List SymbolRecord → PartLists
 with_symbols a x = record { symbols = x; files = a.files; sites = a.sites; lines = a.lines }
@@ -147,35 +142,33 @@ with_lines a x = record { symbols = a.symbols; files = a.files; sites = a.sites;
 -- the lists, with a part more of the newest module
 abbrev pub part_pushed : ModulePart → PartLists → Option PartLists
 part_pushed (Symbol r) a = option_map (with_symbols a) (pushed a.symbols r)
-part_pushed (SymbolsEnd e) a = Some a
-part_pushed (Extras e) a = Some a
 part_pushed (File f) a = option_map (with_files a) (pushed a.files f)
 part_pushed (Lines o e) a = option_map (with_lines a) (list_begun (new_lines o e) a.lines)
 part_pushed (Line l) a = option_map (with_lines a) (list_grown longer_lines l a.lines)
 part_pushed (Inlined s o e) a = option_map (with_sites a) (list_begun (new_site s o e) a.sites)
 part_pushed (Range r) a = option_map (with_sites a) (list_grown longer_site r a.sites)
+part_pushed p a = Some a
 
 -- what was said of the newest module, and now the part too, unless that cannot come
 abbrev pub told_nothing : Told
 told_nothing = record { symbols_end = false; extras = false; sites = false; lines = false }
 
 abbrev pub told_with : ModulePart → Told → Option Told
-told_with (Symbol r) t = Some t
 told_with (SymbolsEnd e) t = cond t.symbols_end None (Some (record { symbols_end = true; extras = t.extras; sites = t.sites; lines = t.lines }))
 told_with (Extras e) t = cond t.extras None (Some (record { symbols_end = t.symbols_end; extras = true; sites = t.sites; lines = t.lines }))
-told_with (File f) t = Some t
 told_with (Lines o e) t = Some (record { symbols_end = t.symbols_end; extras = t.extras; sites = t.sites; lines = true })
 told_with (Line l) t = cond t.lines (Some t) None
 told_with (Inlined s o e) t = Some (record { symbols_end = t.symbols_end; extras = t.extras; sites = true; lines = t.lines })
 told_with (Range r) t = cond t.sites (Some t) None
+told_with p t = Some t
 
 -- a module of no rows yet
 abbrev pub new_module : ModuleState → PartLists → ModuleRow
 new_module s a = record {
   state = s;
   symbols = part_at a.symbols;
-  symbols_end = Clean;
-  extras = Clean;
+  symbols_end = clean;
+  extras = clean;
   site_lists = part_at a.sites.lists;
   line_lists = part_at a.lines.lists;
   files = part_at a.files;
@@ -188,9 +181,8 @@ module_with (SymbolsEnd e) m = record { state = m.state; symbols = m.symbols; sy
 module_with (Extras e) m = record { state = m.state; symbols = m.symbols; symbols_end = m.symbols_end; extras = e; site_lists = m.site_lists; line_lists = m.line_lists; files = m.files }
 module_with (File f) m = record { state = m.state; symbols = m.symbols; symbols_end = m.symbols_end; extras = m.extras; site_lists = m.site_lists; line_lists = m.line_lists; files = grown m.files }
 module_with (Lines o e) m = record { state = m.state; symbols = m.symbols; symbols_end = m.symbols_end; extras = m.extras; site_lists = m.site_lists; line_lists = grown m.line_lists; files = m.files }
-module_with (Line l) m = m
 module_with (Inlined s o e) m = record { state = m.state; symbols = m.symbols; symbols_end = m.symbols_end; extras = m.extras; site_lists = grown m.site_lists; line_lists = m.line_lists; files = m.files }
-module_with (Range r) m = m
+module_with p m = m
 
 -- what is said of modules so far
 pub record ModuleLists : Type 0 where
@@ -199,7 +191,7 @@ pub record ModuleLists : Type 0 where
   pub parts : PartLists
 
 abbrev pub module_lists : ModuleDraft → ModuleLists
-module_lists d = record { modules = vec_items d.modules; told = d.told; parts = part_lists d.parts }
+module_lists d = record { modules = vec_items d.tables.modules; told = d.told; parts = part_lists d.tables.parts }
 
 abbrev pub module_opened : ModuleState → ModuleLists → Option ModuleLists
 module_opened s a = option_map (λ ms. record { modules = ms; told = told_nothing; parts = a.parts }) (pushed a.modules (new_module s a.parts))
@@ -228,7 +220,7 @@ with_text a x = record { text = x; image = a.image; modules = a.modules; hidden 
 abbrev with_image : Lists → ImageLists → Lists
 with_image a x = record { text = a.text; image = x; modules = a.modules; hidden = a.hidden; questions = a.questions }
 
-abbrev with_modules : Lists → ModuleLists → Lists
+abbrev pub with_modules : Lists → ModuleLists → Lists
 with_modules a x = record { text = a.text; image = a.image; modules = x; hidden = a.hidden; questions = a.questions }
 
 abbrev with_hidden : Lists → List ℕ → Lists
@@ -259,12 +251,3 @@ pub record Says (a b : Lists) : Type 0 where
   pub rows : List RowLine
   pub fitting : AllByRecursion (λ l. Fitting l.row) rows
   pub whole : said rows a ≡ Some b
-
--- the parts of modules are counted in 32 bits
-pub record FewParts (t : PartTables) : Type 0 where
-  pub symbols : vec_len t.symbols < 2 ^ 32
-  pub files : vec_len t.files < 2 ^ 32
-  pub site_lists : vec_len t.sites.lists < 2 ^ 32
-  pub site_rows : vec_len t.sites.rows < 2 ^ 32
-  pub line_lists : vec_len t.lines.lists < 2 ^ 32
-  pub line_rows : vec_len t.lines.rows < 2 ^ 32

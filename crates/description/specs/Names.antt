@@ -3,50 +3,35 @@ use Rattle.std.specs.Prelude.{ℕ, ◌+◌, ◌≤◌, List, length, Some, None}
 use Rattle.std.specs.List.{AllByRecursion}
 use Rattle.base.specs.declared.image.TextPart.{TextPart}
 use Rattle.provider.specs.declared.symbols.Symbol.{Symbol}
-use Rattle.provider.specs.declared.symbols.Symbol.TheVariants.{Procedure, Thunk, SeparatedCode, InlineSite, Other}
+use Rattle.provider.specs.declared.symbols.Symbol.TheVariants.{Procedure, Thunk}
 use Rattle.description.specs.declared.row.ImageRow.{ImageRow}
-use Rattle.description.specs.declared.row.ImageRow.TheVariants.{Section, Public, Contribution, PublicsEnd, ContributionsEnd, StartTable, ContributionTable}
+use Rattle.description.specs.declared.row.ImageRow.TheVariants.{Public}
 use Rattle.description.specs.declared.row.Line.{Line as RowLine}
 use Rattle.description.specs.declared.row.ModulePart.{ModulePart}
-use Rattle.description.specs.declared.row.ModulePart.TheVariants.{Symbol as SymbolPart, SymbolsEnd, Extras, File, Lines, Line, Inlined, Range}
+use Rattle.description.specs.declared.row.ModulePart.TheVariants.{Symbol as SymbolPart, File}
 use Rattle.description.specs.declared.row.Row.{Row}
-use Rattle.description.specs.declared.row.Row.TheVariants.{Text, Image, Module, Part, Hide, Ask}
+use Rattle.description.specs.declared.row.Row.TheVariants.{Image, Part}
 use Rattle.description.specs.Drafts.{Lists}
 
 -- P holds of the name, if there is one
 abbrev pub SymbolName : (TextPart → Type 0) → Symbol → Type 0
 SymbolName P (Procedure offset length end type name) = P name
 SymbolName P (Thunk offset length end name) = P name
-SymbolName P (SeparatedCode offset length end parent) = Unit {0}
-SymbolName P (InlineSite inlinee end) = Unit {0}
-SymbolName P Other = Unit {0}
+SymbolName P s = Unit {0}
 
 abbrev pub ImageName : (TextPart → Type 0) → ImageRow → Type 0
-ImageName P (Section s) = Unit {0}
 ImageName P (Public p) = P p.name
-ImageName P (Contribution c) = Unit {0}
-ImageName P (PublicsEnd e) = Unit {0}
-ImageName P (ContributionsEnd e) = Unit {0}
-ImageName P (StartTable n) = Unit {0}
-ImageName P (ContributionTable n) = Unit {0}
+ImageName P r = Unit {0}
 
 abbrev pub PartName : (TextPart → Type 0) → ModulePart → Type 0
 PartName P (SymbolPart s) = SymbolName P s.symbol
-PartName P (SymbolsEnd e) = Unit {0}
-PartName P (Extras e) = Unit {0}
 PartName P (File f) = P f.name
-PartName P (Lines start ending) = Unit {0}
-PartName P (Line l) = Unit {0}
-PartName P (Inlined site start ending) = Unit {0}
-PartName P (Range r) = Unit {0}
+PartName P p = Unit {0}
 
 abbrev pub RowName : (TextPart → Type 0) → Row → Type 0
-RowName P Text = Unit {0}
 RowName P (Image r) = ImageName P r
-RowName P (Module s) = Unit {0}
 RowName P (Part p) = PartName P p
-RowName P (Hide n) = Unit {0}
-RowName P (Ask q) = Unit {0}
+RowName P r = Unit {0}
 
 -- a name that the row bears is quoted, and not given by its place
 abbrev pub Quoting : RowLine → Type 0

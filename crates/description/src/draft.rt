@@ -1,8 +1,7 @@
 // What a description has said so far.
 use crate::question::Question;
 use crate::said::{Said, Told};
-use crate::tables::{ImageTables, PartTables};
-use modules::tables::ModuleRow;
+use crate::tables::{ImageTables, ModuleTables};
 
 #[derive(Drop)]
 pub struct ImageDraft {
@@ -12,9 +11,8 @@ pub struct ImageDraft {
 
 #[derive(Drop)]
 pub struct ModuleDraft {
-    pub modules: Vec<ModuleRow>,
+    pub tables: ModuleTables,
     pub told: Told,
-    pub parts: PartTables,
 }
 
 #[derive(Drop)]

@@ -1,6 +1,6 @@
 // What is wrong with a description, and where.
 ghost use Rattle.std.specs.Prelude.{◌≡◌};
-ghost use Rattle.description.specs.declared.mistake.Fault.TheVariants.{NoMemory, Wrong};
+ghost use Rattle.description.specs.declared.mistake.AddError.TheVariants.{NoMemory, Wrong};
 
 use std::alloc::{AllocError, AllocFailed};
 use std::fmt;
@@ -42,9 +42,9 @@ pub enum Mistake {
     TooManyRows,
 }
 
-impl Mistake {
-    pub(crate) fn text(&self) -> &'static str {
-        match self {
+impl fmt::Display for Mistake {
+    fn fmt<W: fmt::Write>(&self, f: &mut fmt::Formatter<W>) -> fmt::Result {
+        f.write_str(match self {
             Mistake::UnknownRow => "no row begins with this word",
             Mistake::MissingWord => "a word is missing at the end",
             Mistake::ExtraWord => "there is a word too many",
@@ -77,52 +77,46 @@ impl Mistake {
             Mistake::TableTwice => "the size of this table is said twice",
             Mistake::TextTooLong => "the text has at most 4294967295 bytes",
             Mistake::TooManyRows => "a list has at most 4294967295 rows",
-        }
-    }
-}
-
-impl fmt::Display for Mistake {
-    fn fmt<W: fmt::Write>(&self, f: &mut fmt::Formatter<W>) -> fmt::Result {
-        f.write_str(self.text())
+        })
     }
 }
 
 // Why a row was not added.
 #[derive(Clone, Copy)]
-pub enum Fault {
+pub enum AddError {
     Wrong(Mistake),
     NoMemory,
 }
 
-impl From<Mistake> for Fault {
+impl From<Mistake> for AddError {
     ghost from_gives = { λ m r. r ≡ Wrong m };
 
-    fn from(mistake: Mistake) -> Fault {
-        Fault::Wrong(mistake)
+    fn from(mistake: Mistake) -> AddError {
+        AddError::Wrong(mistake)
     }
 }
 
-impl From<AllocError> for Fault {
+impl From<AllocError> for AddError {
     ghost from_gives = { λ _ r. r ≡ NoMemory };
 
-    fn from(_e: AllocError) -> Fault {
-        Fault::NoMemory
+    fn from(_e: AllocError) -> AddError {
+        AddError::NoMemory
     }
 }
 
-impl<T: Drop> From<AllocFailed<T>> for Fault {
+impl<T: Drop> From<AllocFailed<T>> for AddError {
     ghost from_gives = { λ _ r. r ≡ NoMemory };
 
-    fn from(_e: AllocFailed<T>) -> Fault {
-        Fault::NoMemory
+    fn from(_e: AllocFailed<T>) -> AddError {
+        AddError::NoMemory
     }
 }
 
-impl From<QuoteError> for Fault {
-    fn from(e: QuoteError) -> Fault {
+impl From<QuoteError> for AddError {
+    fn from(e: QuoteError) -> AddError {
         match e {
-            QuoteError::BadEscape => Fault::Wrong(Mistake::BadEscape),
-            QuoteError::NoMemory => Fault::NoMemory,
+            QuoteError::BadEscape => AddError::Wrong(Mistake::BadEscape),
+            QuoteError::NoMemory => AddError::NoMemory,
         }
     }
 }
@@ -134,11 +128,11 @@ pub enum ReadError {
     NoMemory,
 }
 
-impl Fault {
+impl AddError {
     pub(crate) fn at(self, line: u64) -> ReadError {
         match self {
-            Fault::Wrong(mistake) => ReadError::At { line, mistake },
-            Fault::NoMemory => ReadError::NoMemory,
+            AddError::Wrong(mistake) => ReadError::At { line, mistake },
+            AddError::NoMemory => ReadError::NoMemory,
         }
     }
 }

@@ -3,243 +3,233 @@ ghost use Rattle.std.specs.Prelude.{IfSome, IfOk};
 ghost use Rattle.description.specs.Rows.{Fitting, FittingImage};
 
 use crate::fields::Fields;
-use crate::keyword::Keyword;
 use crate::mistake::Mistake;
 use crate::question::Question;
 use crate::row::{ImageRow, Line, ModulePart, Row};
-use crate::token::{Token, tokens_of};
 use base::image::{PublicSymbol, Section, SectionContribution};
 use modules::tables::FileRow;
 use provider::symbols::{LineRow, ModuleState, SiteRow, Symbol, SymbolRecord};
+use words::scan::Word;
 
 // The row of a line; none where the line is blank.
 pub fn read_row<'a>(line: &'a [u8]) -> Result<Option<Line<'a>>, Mistake>
     ensures { IfOk result (λ o. IfSome o (λ l. Fitting l.row)) }
 {
-    let mut tokens = [Token::End; 8];
-    let quoted = tokens_of(line, &mut tokens);
-    match row_of(tokens)? {
-        Some(row) => Ok(Some(Line { row, quoted })),
-        None => Ok(None),
-    }
-}
-
-fn row_of(tokens: [Token; 8]) -> Result<Option<Row>, Mistake>
-    ensures { IfOk result (λ o. IfSome o Fitting) }
-{
-    let mut fields = Fields {
-        tokens,
-        used: 0,
-        mistake: None,
-    };
-    let Some(keyword) = fields.first() else {
+    let mut fields = Fields::new(line);
+    let Some(first) = fields.next()? else {
         return Ok(None);
     };
-    let row = fields.row(keyword);
-    fields.end();
-    match fields.mistake {
-        Some(mistake) => Err(mistake),
-        None => Ok(Some(row)),
-    }
+    let row = fields.row(first)?;
+    fields.end()?;
+    Ok(Some(Line {
+        row,
+        quoted: fields.quoted,
+    }))
 }
 
-impl Fields {
-    fn row(&mut self, keyword: Keyword) -> Row
-        ensures { Fitting result }
+impl Fields<'_> {
+    // The row that begins with a word.
+    fn row(&mut self, first: Word<'_>) -> Result<Row, Mistake>
+        ensures { IfOk result Fitting }
     {
-        match keyword {
-            Keyword::Text => {
-                self.text();
-                Row::Text
+        let Word::Plain(word) = first else {
+            return Err(Mistake::UnknownRow);
+        };
+        match word {
+            b"text" => {
+                self.text()?;
+                Ok(Row::Text)
             }
-            Keyword::Module => Row::Module(self.module_state()),
-            Keyword::Hide => Row::Hide(self.small(Mistake::ModuleTooLarge)),
-            Keyword::Find => Row::Ask(Question::Find(self.number())),
-            Keyword::Same => Row::Ask(Question::Same(self.number(), self.number())),
-            Keyword::Section
-            | Keyword::Public
-            | Keyword::Contribution
-            | Keyword::Publics
-            | Keyword::Contributions
-            | Keyword::Table => Row::Image(self.image_row(keyword)),
-            _ => Row::Part(self.part_row(keyword)),
+            b"module" => Ok(Row::Module(self.module_state()?)),
+            b"hide" => Ok(Row::Hide(self.small(Mistake::ModuleTooLarge)?)),
+            b"find" => Ok(Row::Ask(Question::Find(self.number()?))),
+            b"same" => Ok(Row::Ask(Question::Same(self.number()?, self.number()?))),
+            _ => match self.image_row(word)? {
+                Some(row) => Ok(Row::Image(row)),
+                None => Ok(Row::Part(self.part(word)?)),
+            },
         }
     }
 
-    fn image_row(&mut self, keyword: Keyword) -> ImageRow
-        ensures { FittingImage result }
+    // None where a word begins no row of an image.
+    fn image_row(&mut self, word: &[u8]) -> Result<Option<ImageRow>, Mistake>
+        ensures { IfOk result (λ o. IfSome o FittingImage) }
     {
-        match keyword {
-            Keyword::Section => ImageRow::Section(self.section()),
-            Keyword::Public => ImageRow::Public(self.public()),
-            Keyword::Contribution => ImageRow::Contribution(self.contribution()),
-            Keyword::Publics => ImageRow::PublicsEnd(self.ending()),
-            Keyword::Contributions => ImageRow::ContributionsEnd(self.ending()),
-            _ => self.table(),
+        match word {
+            b"section" => Ok(Some(ImageRow::Section(self.section()?))),
+            b"public" => Ok(Some(ImageRow::Public(self.public()?))),
+            b"contribution" => Ok(Some(ImageRow::Contribution(self.contribution()?))),
+            b"publics" => Ok(Some(ImageRow::PublicsEnd(self.ending()?))),
+            b"contributions" => Ok(Some(ImageRow::ContributionsEnd(self.ending()?))),
+            b"table" => Ok(Some(self.table()?)),
+            _ => Ok(None),
         }
     }
 
-    fn section(&mut self) -> Section {
-        Section {
-            address: self.number(),
-            size: self.number(),
-            executable: self.is_executable(),
+    fn part(&mut self, word: &[u8]) -> Result<ModulePart, Mistake> {
+        match word {
+            b"symbols" => Ok(ModulePart::SymbolsEnd(self.ending()?)),
+            b"extras" => Ok(ModulePart::Extras(self.extras()?)),
+            b"file" => Ok(ModulePart::File(self.file()?)),
+            b"lines" => self.lines(),
+            b"line" => Ok(ModulePart::Line(self.line()?)),
+            b"inlined" => self.inlined(),
+            b"range" => Ok(ModulePart::Range(self.range()?)),
+            _ => Ok(ModulePart::Symbol(self.record(word)?)),
         }
     }
 
-    fn is_executable(&mut self) -> bool {
-        match self.keyword(Mistake::NotAKind) {
-            Keyword::Executable => true,
-            Keyword::Data => false,
-            _ => {
-                self.wrong(Mistake::NotAKind);
-                false
-            }
+    fn record(&mut self, word: &[u8]) -> Result<SymbolRecord, Mistake> {
+        match word {
+            b"procedure" => self.procedure(),
+            b"thunk" => self.thunk(),
+            b"separated" => self.separated(),
+            b"site" => self.site(),
+            b"other" => self.other(),
+            _ => Err(Mistake::UnknownRow),
         }
     }
 
-    fn public(&mut self) -> PublicSymbol {
-        PublicSymbol {
-            offset: self.offset(),
-            name: self.name(),
+    fn section(&mut self) -> Result<Section, Mistake> {
+        Ok(Section {
+            address: self.number()?,
+            size: self.number()?,
+            executable: self.is_executable()?,
+        })
+    }
+
+    fn is_executable(&mut self) -> Result<bool, Mistake> {
+        match self.plain()? {
+            b"executable" => Ok(true),
+            b"data" => Ok(false),
+            _ => Err(Mistake::NotAKind),
         }
     }
 
-    fn contribution(&mut self) -> SectionContribution {
-        SectionContribution {
-            offset: self.offset(),
-            size: self.number(),
-            module: self.small(Mistake::ModuleTooLarge),
-        }
+    fn public(&mut self) -> Result<PublicSymbol, Mistake> {
+        Ok(PublicSymbol {
+            offset: self.offset()?,
+            name: self.name()?,
+        })
     }
 
-    fn table(&mut self) -> ImageRow
-        ensures { FittingImage result }
+    fn contribution(&mut self) -> Result<SectionContribution, Mistake> {
+        Ok(SectionContribution {
+            offset: self.offset()?,
+            size: self.number()?,
+            module: self.small(Mistake::ModuleTooLarge)?,
+        })
+    }
+
+    fn table(&mut self) -> Result<ImageRow, Mistake>
+        ensures { IfOk result FittingImage }
     {
-        match self.keyword(Mistake::NotATable) {
-            Keyword::Starts => ImageRow::StartTable(self.table_rows()),
-            Keyword::Contributions => ImageRow::ContributionTable(self.table_rows()),
-            _ => {
-                self.wrong(Mistake::NotATable);
-                ImageRow::StartTable(0)
-            }
+        match self.plain()? {
+            b"starts" => Ok(ImageRow::StartTable(self.table_rows()?)),
+            b"contributions" => Ok(ImageRow::ContributionTable(self.table_rows()?)),
+            _ => Err(Mistake::NotATable),
         }
     }
 
-    fn module_state(&mut self) -> ModuleState {
-        match self.keyword(Mistake::NotAState) {
-            Keyword::Present => ModuleState::Present,
-            Keyword::Absent => ModuleState::Absent,
-            Keyword::Broken => ModuleState::Broken,
-            _ => {
-                self.wrong(Mistake::NotAState);
-                ModuleState::Absent
-            }
+    fn module_state(&mut self) -> Result<ModuleState, Mistake> {
+        match self.plain()? {
+            b"present" => Ok(ModuleState::Present),
+            b"absent" => Ok(ModuleState::Absent),
+            b"broken" => Ok(ModuleState::Broken),
+            _ => Err(Mistake::NotAState),
         }
     }
 
-    fn part_row(&mut self, keyword: Keyword) -> ModulePart {
-        match keyword {
-            Keyword::Symbols => ModulePart::SymbolsEnd(self.ending()),
-            Keyword::Extras => ModulePart::Extras(self.extras()),
-            Keyword::File => ModulePart::File(FileRow {
-                number: self.number(),
-                name: self.name(),
-            }),
-            Keyword::Lines => ModulePart::Lines {
-                start: self.offset(),
-                ending: self.list_ending(),
+    fn file(&mut self) -> Result<FileRow, Mistake> {
+        Ok(FileRow {
+            number: self.number()?,
+            name: self.name()?,
+        })
+    }
+
+    fn lines(&mut self) -> Result<ModulePart, Mistake> {
+        Ok(ModulePart::Lines {
+            start: self.offset()?,
+            ending: self.list_ending()?,
+        })
+    }
+
+    fn line(&mut self) -> Result<LineRow, Mistake> {
+        Ok(LineRow {
+            offset: self.number()?,
+            file: self.number()?,
+            line: self.number()?,
+        })
+    }
+
+    fn inlined(&mut self) -> Result<ModulePart, Mistake> {
+        Ok(ModulePart::Inlined {
+            site: self.number()?,
+            start: self.offset()?,
+            ending: self.list_ending()?,
+        })
+    }
+
+    fn range(&mut self) -> Result<SiteRow, Mistake> {
+        Ok(SiteRow {
+            offset: self.number()?,
+            length: self.length()?,
+            file: self.number()?,
+            line: self.number()?,
+        })
+    }
+
+    fn procedure(&mut self) -> Result<SymbolRecord, Mistake> {
+        Ok(SymbolRecord {
+            index: self.number()?,
+            symbol: Symbol::Procedure {
+                offset: self.offset()?,
+                length: self.number()?,
+                end: self.number()?,
+                type_number: self.number()?,
+                name: self.name()?,
             },
-            Keyword::Line => ModulePart::Line(self.line()),
-            Keyword::Inlined => ModulePart::Inlined {
-                site: self.number(),
-                start: self.offset(),
-                ending: self.list_ending(),
+        })
+    }
+
+    fn thunk(&mut self) -> Result<SymbolRecord, Mistake> {
+        Ok(SymbolRecord {
+            index: self.number()?,
+            symbol: Symbol::Thunk {
+                offset: self.offset()?,
+                length: self.small(Mistake::ThunkTooLong)?,
+                end: self.number()?,
+                name: self.name()?,
             },
-            Keyword::Range => ModulePart::Range(self.range()),
-            _ => ModulePart::Symbol(self.record(keyword)),
-        }
+        })
     }
 
-    fn line(&mut self) -> LineRow {
-        LineRow {
-            offset: self.number(),
-            file: self.number(),
-            line: self.number(),
-        }
-    }
-
-    fn range(&mut self) -> SiteRow {
-        SiteRow {
-            offset: self.number(),
-            length: self.length(),
-            file: self.number(),
-            line: self.number(),
-        }
-    }
-
-    fn record(&mut self, keyword: Keyword) -> SymbolRecord {
-        match keyword {
-            Keyword::Procedure
-            | Keyword::Thunk
-            | Keyword::Separated
-            | Keyword::Site
-            | Keyword::OtherRecord => SymbolRecord {
-                index: self.number(),
-                symbol: self.symbol(keyword),
+    fn separated(&mut self) -> Result<SymbolRecord, Mistake> {
+        Ok(SymbolRecord {
+            index: self.number()?,
+            symbol: Symbol::SeparatedCode {
+                offset: self.offset()?,
+                length: self.number()?,
+                end: self.number()?,
+                parent: self.offset()?,
             },
-            _ => {
-                self.wrong(Mistake::UnknownRow);
-                SymbolRecord {
-                    index: 0,
-                    symbol: Symbol::Other,
-                }
-            }
-        }
+        })
     }
 
-    fn symbol(&mut self, keyword: Keyword) -> Symbol {
-        match keyword {
-            Keyword::Procedure => self.procedure(),
-            Keyword::Thunk => self.thunk(),
-            Keyword::Separated => self.separated(),
-            Keyword::Site => self.site(),
-            _ => Symbol::Other,
-        }
+    fn site(&mut self) -> Result<SymbolRecord, Mistake> {
+        Ok(SymbolRecord {
+            index: self.number()?,
+            symbol: Symbol::InlineSite {
+                inlinee: self.number()?,
+                end: self.number()?,
+            },
+        })
     }
 
-    fn procedure(&mut self) -> Symbol {
-        Symbol::Procedure {
-            offset: self.offset(),
-            length: self.number(),
-            end: self.number(),
-            type_number: self.number(),
-            name: self.name(),
-        }
-    }
-
-    fn thunk(&mut self) -> Symbol {
-        Symbol::Thunk {
-            offset: self.offset(),
-            length: self.small(Mistake::ThunkTooLong),
-            end: self.number(),
-            name: self.name(),
-        }
-    }
-
-    fn separated(&mut self) -> Symbol {
-        Symbol::SeparatedCode {
-            offset: self.offset(),
-            length: self.number(),
-            end: self.number(),
-            parent: self.offset(),
-        }
-    }
-
-    fn site(&mut self) -> Symbol {
-        Symbol::InlineSite {
-            inlinee: self.number(),
-            end: self.number(),
-        }
+    fn other(&mut self) -> Result<SymbolRecord, Mistake> {
+        Ok(SymbolRecord {
+            index: self.number()?,
+            symbol: Symbol::Other,
+        })
     }
 }

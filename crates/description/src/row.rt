@@ -48,7 +48,8 @@ pub enum Row {
     Ask(Question),
 }
 
-// The bytes between the quotes are as they stand in the line. A name in the row is then still to be set.
+// The bytes between the quotes are as they stand in the line. A name in the row is then still to be set. They stand beside the row,
+// since a row with the bytes inside would be a second kind of each row that bears a name.
 #[derive(Clone, Copy)]
 pub struct Line<'a> {
     pub row: Row,
@@ -61,18 +62,20 @@ impl Row {
         ensures { result ≡ named name self }
     {
         match self {
-            Row::Image(ImageRow::Public(PublicSymbol { offset, .. })) => Row::Image(
-                ImageRow::Public(PublicSymbol { offset, name }),
-            ),
+            Row::Image(ImageRow::Public(symbol)) => Row::Image(ImageRow::Public(PublicSymbol {
+                name,
+                ..symbol
+            })),
             Row::Part(ModulePart::Symbol(SymbolRecord { index, symbol })) => Row::Part(
                 ModulePart::Symbol(SymbolRecord {
                     index,
                     symbol: symbol_named(symbol, name),
                 }),
             ),
-            Row::Part(ModulePart::File(FileRow { number, .. })) => Row::Part(ModulePart::File(
-                FileRow { number, name },
-            )),
+            Row::Part(ModulePart::File(file)) => Row::Part(ModulePart::File(FileRow {
+                name,
+                ..file
+            })),
             row => row,
         }
     }

@@ -1,43 +1,43 @@
 // The function at a location.
-ghost use Rattle.std.specs.Prelude.{◌≡◌, ◌+◌, ◌^◌, ◌<◌, ◌≤◌, length, if◌then◌else◌, Some, None, nat_eq};
-ghost use Rattle.order.specs.Rank.{Rises, first, last};
+ghost use Rattle.std.specs.Prelude.{◌≡◌, ◌+◌, ◌^◌, ◌<◌, Some};
+ghost use Rattle.order.specs.Rank.{InOrder, first, last};
 ghost use Rattle.order.specs.Placed.{Reach};
 ghost use Rattle.base.specs.Rows.{offset_rank, start_rank};
 ghost use Rattle.procedures.specs.Rows.{procedure_rank};
 ghost use Rattle.context.specs.Context.{meaning};
-ghost use Rattle.lookup.specs.Finding.{covers as contained, chosen, reaches, follows, capped as at_most_top, of_procedure, of_start, function_at};
+ghost use Rattle.lookup.specs.Finding.{chosen, reaches, follows, capped as at_most_top, of_procedure, of_start, function_at};
 
-use crate::name::{procedure_name, raw_or_none};
+use crate::holds::holds;
+use crate::name::procedure_name;
 use base::context::KnownStart;
 use base::image::SectionOffset;
 use context::tables::Context;
 use procedures::function::{Function, Location};
+use procedures::name::NameRow;
 use procedures::row::Procedure;
-use table::{contains, reach};
-
-fn covers(procedure: &Procedure, offset: SectionOffset) -> bool
-    ensures { result ≡ contained offset procedure.now }
-{
-    procedure.offset.section == offset.section && contains(procedure, offset.offset)
-}
+use table::{Sorted, reach};
 
 // Of the procedures that contain a place, the one that starts last. They may overlap and nest, so each that starts at or
 // below the place is tried.
+#[tactic(auto, using(lookup::proofs::Searching::chosen_reach))]
 fn choose(procedures: &[Procedure], offset: SectionOffset) -> Option<Procedure>
-    ensures { Rises procedure_rank procedures.now → result ≡ chosen offset procedures.now }
+    ensures { InOrder procedure_rank procedures.now → result ≡ chosen offset procedures.now }
 {
     let here = Procedure {
         offset,
         ..Procedure::empty()
     };
-    let below = reach(procedures, &here);
-    for k in (0..below).rev() {
-        let procedure = procedures[k];
-        if covers(&procedure, offset) {
-            return Some(procedure);
-        }
-    }
-    None
+    last_holding(&procedures[..reach(procedures, &here)], offset)
+}
+
+fn last_holding(procedures: &[Procedure], offset: SectionOffset) -> Option<Procedure>
+    ensures { result ≡ chosen offset procedures.now }
+{
+    procedures
+        .iter()
+        .rev()
+        .find(|procedure| holds(*procedure, offset))
+        .copied()
 }
 
 // An address above the top is none.
@@ -56,6 +56,7 @@ fn of_procedure(
     ensures { location.now.base + procedure.now.offset.offset < 2 ^ 32 → result ≡ of_procedure text.now (meaning context.now).starts location.now procedure.now }
 {
     let start = procedure.offset.offset;
+    // of `end()` no bound is known
     let end = u64::from(start) + u64::from(procedure.length);
     Function {
         start_rva: location.base.saturating_add(start),
@@ -64,35 +65,28 @@ fn of_procedure(
     }
 }
 
-fn of_section(start: KnownStart, section: u16) -> Option<KnownStart>
-    ensures { result ≡ (if nat_eq start.offset.section section then Some start else None) }
-{
-    if start.offset.section == section {
-        Some(start)
-    } else {
-        None
-    }
-}
-
 // The last start at or below a place, in its section; `upto` starts do not come after the place.
-fn start_below(starts: &[KnownStart], upto: usize, offset: SectionOffset) -> Option<KnownStart>
-    requires { upto ≤ length starts.now }
-    ensures { Rises start_rank starts.now → Reach start_rank starts.now (offset_rank offset) upto → result ≡ last (reaches offset) starts.now }
+fn start_below(
+    starts: &Sorted<'_, KnownStart>,
+    upto: usize,
+    offset: SectionOffset,
+) -> Option<KnownStart>
+    ensures { Reach start_rank starts.now.rows.now (offset_rank offset) upto → result ≡ last (reaches offset) starts.now.rows.now }
 {
-    if upto == 0 {
-        return None;
-    }
-    of_section(starts[upto - 1], offset.section)
+    let start = *starts.rows.get(upto.checked_sub(1)?)?;
+    (start.offset.section == offset.section).then_some(start)
 }
 
 // The first start above it.
-fn start_above(starts: &[KnownStart], upto: usize, offset: SectionOffset) -> Option<KnownStart>
-    ensures { Rises start_rank starts.now → Reach start_rank starts.now (offset_rank offset) upto → result ≡ first (follows offset) starts.now }
+fn start_above(
+    starts: &Sorted<'_, KnownStart>,
+    upto: usize,
+    offset: SectionOffset,
+) -> Option<KnownStart>
+    ensures { Reach start_rank starts.now.rows.now (offset_rank offset) upto → result ≡ first (follows offset) starts.now.rows.now }
 {
-    if upto >= starts.len() {
-        return None;
-    }
-    of_section(starts[upto], offset.section)
+    let start = *starts.rows.get(upto)?;
+    (start.offset.section == offset.section).then_some(start)
 }
 
 // From a start up to the next one. A start before the contribution says nothing of it.
@@ -105,36 +99,32 @@ fn between(location: &Location, start: KnownStart, next: KnownStart) -> Option<F
     Some(Function {
         start_rva: location.base.saturating_add(start.offset.offset),
         end_rva: capped(u64::from(location.base) + u64::from(next.offset.offset)),
-        name: raw_or_none(start.name),
+        name: start.name.map_or(NameRow::None, NameRow::Raw),
     })
 }
 
 // The extent of the last start at or below the location's place.
-fn of_start(starts: &[KnownStart], location: &Location) -> Option<Function>
-    ensures { Rises start_rank starts.now → location.now.base + location.now.offset.offset < 2 ^ 32 → result ≡ of_start location.now (last (reaches location.now.offset) starts.now) (first (follows location.now.offset) starts.now) }
+fn of_start(starts: &Sorted<'_, KnownStart>, location: &Location) -> Option<Function>
+    ensures { location.now.base + location.now.offset.offset < 2 ^ 32 → result ≡ of_start location.now (last (reaches location.now.offset) starts.now.rows.now) (first (follows location.now.offset) starts.now.rows.now) }
 {
-    let here = KnownStart {
-        offset: location.offset,
-        name: None,
-    };
-    let upto = reach(starts, &here);
+    let upto = starts.reach(&location.offset.into());
     let start = start_below(starts, upto, location.offset)?;
     let next = start_above(starts, upto, location.offset)?;
     between(location, start, next)
 }
 
 // The function at a location, given the procedures of its contribution's module: the chosen procedure, or else what the
-// known starts tell.
+// known starts tell. The text is the provider's and the context the caller's: a struct of both would be made for this call alone.
 pub fn function_at(
     text: &[u8],
     context: &Context<'_>,
     location: &Location,
     procedures: &[Procedure],
 ) -> Option<Function>
-    ensures { Rises procedure_rank procedures.now → location.now.base + location.now.offset.offset < 2 ^ 32 → result ≡ function_at text.now (meaning context.now).starts location.now procedures.now }
+    ensures { InOrder procedure_rank procedures.now → location.now.base + location.now.offset.offset < 2 ^ 32 → result ≡ function_at text.now (meaning context.now).starts location.now procedures.now }
 {
     match choose(procedures, location.offset) {
         Some(procedure) => Some(of_procedure(text, context, location, &procedure)),
-        None => of_start(&context.starts[0..context.start_count], location),
+        None => of_start(&context.starts.used(), location),
     }
 }

@@ -2,5 +2,6 @@
 #![tactic(auto)]
 
 pub mod choose;
+mod holds;
 pub mod locate;
 mod name;

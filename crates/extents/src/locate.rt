@@ -1,59 +1,57 @@
 // Where an address lies.
-ghost use Rattle.std.specs.Prelude.{◌≡◌, ◌<◌, [], ◌∷◌, IfSome};
-ghost use Rattle.order.specs.Rank.{InOrder, Pairwise};
-ghost use Rattle.base.specs.Rows.{contribution_rank};
-ghost use Rattle.building.specs.Blocks.{apart};
+ghost use Rattle.std.specs.Prelude.{◌≡◌, ◌-◌, ◌<◌, IfSome, IsTrue};
+ghost use Rattle.std.specs.List.{position};
 ghost use Rattle.sections.specs.Used.{used};
 ghost use Rattle.context.specs.Context.{meaning};
-ghost use Rattle.lookup.specs.Places.{locate as located, spot, contribution_at, holds as contained};
+ghost use Rattle.lookup.specs.Places.{locate as located, here, spot, contribution_at};
 
+use crate::holds::holds;
 use base::context::Contribution;
 use base::image::{Section, SectionOffset};
 use context::tables::Context;
 use procedures::function::{Location, Spot};
 use sections::Sections;
-use table::{contains, position};
+use table::contains;
 
 // The place in the first section that contains the address. Section numbers count from 1.
+#[tactic(auto, using(lookup::proofs::Searching::spot_position))]
 fn spot_of(sections: &Sections, address: u32) -> Option<Spot>
     ensures spot { result ≡ spot 1 (used sections.now) address }
     ensures below { IfSome result (λ s. s.offset.offset < 4294967295) }
 {
-    for k in 0..sections.count {
-        if let Some(spot) = spot_in(k as u16 + 1, sections.rows[k], address) {
-            return Some(spot);
-        }
-    }
-    None
+    let rows = sections.used();
+    let index = section_of(rows, address)?;
+    Some(place_in(index as u16 + 1, rows[index], address))
 }
 
-// The place in one section, if that contains the address.
-fn spot_in(number: u16, section: Section, address: u32) -> Option<Spot>
-    ensures spot { result ≡ spot number (section ∷ []) address }
-    ensures below { IfSome result (λ s. s.offset.offset < 4294967295) }
+// The first section that contains the address, by its place in the list.
+fn section_of(sections: &[Section], address: u32) -> Option<usize>
+    ensures { result ≡ position (here address) sections.now }
 {
-    if !contains(&section, address) {
-        return None;
-    }
-    Some(Spot {
+    sections
+        .iter()
+        .position(|section| contains(section, address))
+}
+
+// The place in one section, which contains the address.
+fn place_in(number: u16, section: Section, address: u32) -> Spot
+    requires { IsTrue (here address section) }
+    ensures spot { result ≡ record { base = section.address; offset = record { section = number; offset = address - section.address } } }
+    ensures below { result.offset.offset < 4294967295 }
+{
+    Spot {
         base: section.address,
         offset: SectionOffset {
             section: number,
             offset: address - section.address,
         },
-    })
-}
-
-fn holds(contribution: &Contribution, offset: SectionOffset) -> bool
-    ensures { result ≡ contained offset contribution.now }
-{
-    contribution.section == offset.section && contains(contribution, offset.offset)
+    }
 }
 
 // The contribution that contains a place. Contributions lie apart, so only the last that starts at or below the place can.
-fn contribution_at(contributions: &[Contribution], offset: SectionOffset) -> Option<Contribution>
+fn contribution_at(context: &Context<'_>, offset: SectionOffset) -> Option<Contribution>
     requires { offset.offset < 4294967295 }
-    ensures { InOrder contribution_rank contributions.now → Pairwise apart contributions.now → result ≡ contribution_at contributions.now offset }
+    ensures { result ≡ contribution_at (meaning context.now).contributions offset }
 {
     let above = Contribution {
         section: offset.section,
@@ -61,27 +59,21 @@ fn contribution_at(contributions: &[Contribution], offset: SectionOffset) -> Opt
         end: 0,
         module: 0,
     };
-    let place = position(contributions, &above);
-    if place == 0 {
-        return None;
-    }
-    let candidate = contributions[place - 1];
-    if holds(&candidate, offset) {
-        Some(candidate)
-    } else {
-        None
-    }
+    let contributions = context.contributions.used();
+    let place = contributions.position(&above).checked_sub(1)?;
+    let candidate = *contributions.rows.get(place)?;
+    holds(&candidate, offset).then_some(candidate)
 }
 
-// An address lies nowhere if no section contains it, or no contribution the place in that section.
+// An address lies nowhere if no section contains it, or no contribution the place in that section. `let .. else` at both steps is a rule of the
+// project.
 pub fn locate(context: &Context<'_>, address: u32) -> Option<Location>
     ensures { result ≡ located (meaning context.now) address }
 {
     let Some(spot) = spot_of(&context.sections, address) else {
         return None;
     };
-    let contributions = &context.contributions[0..context.contribution_count];
-    let Some(contribution) = contribution_at(contributions, spot.offset) else {
+    let Some(contribution) = contribution_at(context, spot.offset) else {
         return None;
     };
     Some(Location {

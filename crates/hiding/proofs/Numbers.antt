@@ -2,7 +2,7 @@
 use Rattle.std.proofs.Common.{◌≡◌, ℕ, ◌+◌, ◌<◌, Bool, true, false, not, eqb, List, [], ◌∷◌, ◌++◌, length, take, set, sym, subst, arith}
 use Rattle.std.proofs.lemmas.Bool.Decides.{nat_tests}
 use Rattle.std.proofs.lemmas.List.{take_more_set}
-use Rattle.std.proofs.lemmas.Bool.{and_parts, and_from, both_ways}
+use Rattle.std.proofs.lemmas.Bool.{and_parts, and_from}
 use Rattle.order.specs.Rank.{every}
 use Rattle.hiding.specs.Hidden.{among, apart}
 
@@ -21,6 +21,3 @@ apart_push (x ∷ xs) n h a =
 -- a new number in the first free place
 pub one_more : (count : ℕ) (ns : List ℕ) (n : ℕ) → count < length ns → apart (take count ns) ≡ true → false ≡ among (take count ns) n → apart (take (count + 1) (set ns count n)) ≡ true
 one_more count ns n l h a = subst (λ xs. apart xs ≡ true) (sym (take_more_set ns count n l)) (apart_push (take count ns) n h (sym a))
-
-pub not_again : (b : Bool) → false ≡ b → b ≡ true → ⊥
-not_again b n h = both_ways b (sym n) h

@@ -1,7 +1,7 @@
 // A provider with some of its modules hidden.
 #![tactic(auto)]
 
-ghost use Rattle.std.specs.Prelude.{◌≡◌, ◌≤◌, true, false, [], take, Some, None, Ok, Err};
+ghost use Rattle.std.specs.Prelude.{◌≡◌, ◌≤◌, true, false, [], take, Some, None, Ok, Err, MatchOption};
 ghost use Rattle.base.specs.declared.refusal.Refusal.TheVariants.{TooManyHidden};
 ghost use Rattle.hiding.specs.Hidden.{among, apart, hide, hide_regular, with};
 
@@ -16,11 +16,12 @@ use provider::symbols::{LineRow, ModuleState, SiteRow, SymbolRecord};
 // The most modules that one layer hides.
 const MOST_HIDDEN: usize = 64;
 
-// The first `count` numbers are those of the hidden modules, each once.
+// The first `count` numbers are those of the hidden modules, each once. It has no model, so that `≡` compares whole layers.
 #[derive(Drop)]
 pub struct Hiding<P> {
     below: P,
-    numbers: [u16; 64],
+    // an array with a count: the list lives inside the layer, and nothing is allocated
+    numbers: [u16; MOST_HIDDEN],
     count: usize,
     ghost few: { count ≤ 64 },
     ghost once: { apart (take count numbers) ≡ true },
@@ -34,7 +35,7 @@ impl<P> Hiding<P> {
     {
         Hiding {
             below,
-            numbers: [0; 64],
+            numbers: [0; MOST_HIDDEN],
             count: 0,
         }
     }
@@ -56,6 +57,16 @@ impl<P> Hiding<P> {
         Ok(())
     }
 
+    // The provider below, where the module is not hidden.
+    fn shown(&self, number: u16) -> Option<&P>
+        ensures { MatchOption result (among (take self.now.count self.now.numbers) number ≡ true) (λ p. (among (take self.now.count self.now.numbers) number ≡ false) × (p.now ≡ self.now.below)) }
+    {
+        if self.hides(number) {
+            return None;
+        }
+        Some(&self.below)
+    }
+
     fn hides(&self, number: u16) -> bool
         ensures { result ≡ among (take self.now.count self.now.numbers) number }
     {
@@ -63,6 +74,7 @@ impl<P> Hiding<P> {
     }
 }
 
+// A loop, and not `contains`: docs/DECISIONS.md wants the layer's list looped over.
 fn is_among(numbers: &[u16], number: u16) -> bool
     ensures { result ≡ among numbers.now number }
 {
@@ -106,44 +118,30 @@ impl<P: ModuleProvider> ModuleProvider for Hiding<P> {
     }
 
     fn module_state(&self, number: u16) -> ModuleState {
-        if self.hides(number) {
-            return ModuleState::Absent;
-        }
-        self.below.module_state(number)
+        self.shown(number)
+            .map_or(ModuleState::Absent, |below| below.module_state(number))
     }
 
     fn symbol(&self, number: u16, item: u32) -> Entry<SymbolRecord> {
-        if self.hides(number) {
-            return Entry::End(Ending::Clean);
-        }
-        self.below.symbol(number, item)
+        self.shown(number)
+            .map_or(Ok(None), |below| below.symbol(number, item))
     }
 
     fn extras(&self, number: u16) -> Ending {
-        if self.hides(number) {
-            return Ending::Clean;
-        }
-        self.below.extras(number)
+        self.shown(number)
+            .map_or(Ok(()), |below| below.extras(number))
     }
 
     fn site_row(&self, number: u16, site: u32, start: SectionOffset, item: u32) -> Entry<SiteRow> {
-        if self.hides(number) {
-            return Entry::End(Ending::Clean);
-        }
-        self.below.site_row(number, site, start, item)
+        self.shown(number).map_or(Ok(None), |below| below.site_row(number, site, start, item))
     }
 
     fn line_row(&self, number: u16, start: SectionOffset, item: u32) -> Entry<LineRow> {
-        if self.hides(number) {
-            return Entry::End(Ending::Clean);
-        }
-        self.below.line_row(number, start, item)
+        self.shown(number)
+            .map_or(Ok(None), |below| below.line_row(number, start, item))
     }
 
     fn file_name(&self, number: u16, file: u32) -> Option<TextPart> {
-        if self.hides(number) {
-            return None;
-        }
-        self.below.file_name(number, file)
+        self.shown(number)?.file_name(number, file)
     }
 }

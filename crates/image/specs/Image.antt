@@ -1,13 +1,11 @@
 -- What an image source means. Assumes nothing.
-use Rattle.std.specs.Prelude.{ℕ, ◌+◌, ◌^◌, ◌<◌, ◌≤◌, List, length, Some, None, Option, slice_index_or}
+use Rattle.std.specs.Prelude.{ℕ, ◌+◌, ◌^◌, ◌<◌, ◌≤◌, List, length, slice_index_or}
 use Rattle.std.specs.List.{slice_get}
 use Rattle.base.specs.declared.image.TextPart.{TextPart}
 use Rattle.base.specs.declared.image.Section.{Section}
 use Rattle.base.specs.declared.image.SectionContribution.{SectionContribution}
 use Rattle.base.specs.declared.image.PublicSymbol.{PublicSymbol}
-use Rattle.base.specs.declared.image.Ending.{Ending}
-use Rattle.base.specs.declared.image.Entry.{Entry}
-use Rattle.base.specs.declared.image.Entry.TheVariants.{Item, End}
+use Rattle.base.specs.Lists.{Ending, Entry, answered}
 
 pub record Image : Type 0 where
   pub text : List ℕ
@@ -17,13 +15,9 @@ pub record Image : Type 0 where
   pub contributions : List SectionContribution
   pub contributions_end : Ending
 
-abbrev found : {X : Type 0} → Ending → Option X → Entry X
-found end None = End end
-found end (Some x) = Item x
-
 -- what is answered to a question for item k
 abbrev pub entry : {X : Type 0} → List X → Ending → ℕ → Entry X
-entry xs end k = found end (slice_get xs k)
+entry xs end k = answered end (slice_get xs k)
 
 abbrev pub PartOf : List ℕ → TextPart → Type 0
 PartOf text p = p.start + p.length ≤ length text

@@ -1,1 +1,2 @@
 pub mod Image
+pub mod Checks

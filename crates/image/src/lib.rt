@@ -5,6 +5,8 @@ ghost use Rattle.std.specs.Prelude.{◌≡◌};
 ghost use Rattle.std.specs.List.{slice_get};
 ghost use Rattle.image.specs.Image.{Image, Lawful, entry};
 
+pub mod check;
+
 use base::image::{Entry, PublicSymbol, Section, SectionContribution};
 
 pub trait ImageSource {

@@ -114,10 +114,6 @@ module _ {X : Type 0} (t : X → Bool) where
         | false ↦ first-append xs ys
       ]
 
-  pub last_push : (xs : List X) (x : X) → last t (xs ++ x ∷ []) ≡ cond (t x) (Some x) (last t xs)
-  last_push xs x =
-      last-append xs (x ∷ []) ∙ (elim (t x) as (λ b. later (cond b (Some x) None) (last t xs) ≡ cond b (Some x) (last t xs)) [ true ↦ refl | false ↦ refl ])
-
   -- by places
   pub last_never : (xs : List X) → ((j : ℕ) (d : X) → j < length xs → t (get_or xs j d) ≡ false) → last t xs ≡ None
   last_never xs h = none_last xs (all_from_every (λ y. t y ≡ false) xs (λ j d _ l. h j d l))

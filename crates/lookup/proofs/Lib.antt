@@ -2,7 +2,6 @@ pub mod Choosing
 pub mod Extents
 pub mod History
 pub mod Keeping
-pub mod Naming
 pub mod Reading
 pub mod Resolving
 pub mod Searching

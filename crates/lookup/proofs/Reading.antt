@@ -1,6 +1,6 @@
 -- The procedures of a module, one kept record after the other. Assumes nothing.
 use Rattle.std.proofs.Common.{◌≡◌, ℕ, ◌+◌, ◌≤◌, true, false, cond, ltb, List, [], ◌∷◌, ◌++◌, map, length, drop, Some, None, Ok, Err, fold, Option, Result, sym, refl, ap, ◌∙◌, subst, ⊎_elim, arith}
-use Rattle.std.proofs.lemmas.List.{drop_all, length-map}
+use Rattle.std.proofs.lemmas.List.{length-map}
 use Rattle.std.proofs.lemmas.List.Sums.{fold_push}
 use Rattle.std.proofs.lemmas.Bool.{cases_Bool, cond-true, cond-false, ltb-false}
 use Rattle.std.specs.Option.{option_map}
@@ -13,8 +13,7 @@ use Rattle.order.proofs.Ranks.{same_eq, same_refl, before_irrefl, before_asym, b
 use Rattle.order.proofs.Rows.{winner, by_place, pairwise-none, rises-placed, at-placed_away, at-placed_here, same_flip}
 use Rattle.base.specs.Rows.{offset_rank}
 use Rattle.base.specs.declared.image.SectionOffset.{SectionOffset}
-use Rattle.base.specs.declared.image.Ending.{Ending}
-use Rattle.base.specs.declared.image.Ending.TheVariants.{Clean, Fault as Faulty}
+use Rattle.base.specs.Lists.{Ending}
 use Rattle.base.specs.declared.refusal.Refusal.{Refusal}
 use Rattle.base.specs.declared.refusal.Refusal.TheVariants.{ProcedureOutside, TooManyProcedures}
 use Rattle.building.specs.Starts.{or_else}
@@ -22,11 +21,11 @@ use Rattle.building.specs.Outcome.{top}
 use Rattle.building.proofs.Items.{item_drop}
 use Rattle.provider.specs.Modules.{Content, absent, broken, present}
 use Rattle.provider.specs.declared.symbols.SymbolRecord.{SymbolRecord}
-use Rattle.procedures.specs.Rows.{procedure_rank, procedure_meets, parent_rank, parent_meets}
+use Rattle.procedures.specs.Rows.{procedure_rank, procedure_meets, parent_rank, parent_meets, parent_of}
 use Rattle.procedures.specs.declared.row.Procedure.{Procedure}
 use Rattle.procedures.specs.declared.row.Parent.{Parent}
 use Rattle.lookup.specs.Reading.{most_procedures, starts_at, adopted, kept, in_order, procedure_refusal, unless_refused, with_kept, all_kept, ended, reading}
-use Rattle.lookup.specs.Keeping.{parent_of, parents, adopted_by}
+use Rattle.lookup.specs.Keeping.{parents, adopted_by}
 use Rattle.lookup.specs.Laws.{FirstsInOrder}
 use Rattle.lookup.proofs.Choosing.{later-none}
 
@@ -120,10 +119,6 @@ parents_push ps p = fold_push (λ xs x. placed parent_rank parent_meets (parent_
 parents_one : (x r : Parent) → parent_meets x r ≡ Both → ⊥
 parents_one x r e = let z : ◌≡◌ {A = ℕ} 0 1 = cc in omega arith
 
-pub parents-rises : (ps : List Procedure) → Rises parent_rank (parents ps)
-parents-rises ps =
-    rises_gathered parent_rank parent_meets parent_of parents_one [] ps (pairwise-none (λ x y. before (parent_rank x) (parent_rank y)))
-
 -- both have one row for each offset
 pub parents-length : (ps : List Procedure) → length (parents ps) ≡ length (in_order ps)
 parents-length ps =
@@ -175,9 +170,6 @@ adopted_parent o length k end (Some p) = refl
 pub all_kept_step : (m k : ℕ) (had : List Procedure) (rs : List SymbolRecord) (r : SymbolRecord) → slice_get rs k ≡ Some r → all_kept m k had (drop k rs) ≡ elim (with_kept m k had (kept had k r.symbol)) [ Ok after ↦ all_kept m (k + 1) after (drop (k + 1) rs) | Err e ↦ Err e ]
 all_kept_step m k had rs r e = ap (all_kept m k had) (item_drop rs k r e)
 
-pub all_kept_end : (m k : ℕ) (had : List Procedure) (rs : List SymbolRecord) → length rs ≤ k → all_kept m k had (drop k rs) ≡ Ok had
-all_kept_end m k had rs l = ap (all_kept m k had) (drop_all k rs l)
-
 ok_is : (a b : List Procedure) → ◌≡◌ {A = Result (List Procedure) Refusal} (Ok a) (Ok b) → a ≡ b
 ok_is a b p = cc
 
@@ -218,10 +210,10 @@ reading-kept m broken ps h = let z : ◌≡◌ {A = ℕ} 0 1 = cc in absurd (ome
 reading-kept m (present x) ps h = go x.symbols_end (all_kept m 0 [] x.symbols) refl h
   where
     go : (end : Ending) (w : Result (List Procedure) Refusal) → all_kept m 0 [] x.symbols ≡ w → ended end w ≡ Ok (Some ps) → (qs : List Procedure) × (ps ≡ in_order qs) × (length (in_order qs) ≤ most_procedures)
-    go Clean (Ok qs) e g = (qs, cc, all_kept-few m 0 [] x.symbols qs (omega arith) e)
-    go (Faulty code) (Ok qs) e g = let z : ◌≡◌ {A = ℕ} 0 1 = cc in absurd (omega arith)
-    go Clean (Err y) e g = let z : ◌≡◌ {A = ℕ} 0 1 = cc in absurd (omega arith)
-    go (Faulty code) (Err y) e g = let z : ◌≡◌ {A = ℕ} 0 1 = cc in absurd (omega arith)
+    go (Ok u) (Ok qs) e g = (qs, cc, all_kept-few m 0 [] x.symbols qs (omega arith) e)
+    go (Err code) (Ok qs) e g = let z : ◌≡◌ {A = ℕ} 0 1 = cc in absurd (omega arith)
+    go (Ok u) (Err y) e g = let z : ◌≡◌ {A = ℕ} 0 1 = cc in absurd (omega arith)
+    go (Err code) (Err y) e g = let z : ◌≡◌ {A = ℕ} 0 1 = cc in absurd (omega arith)
 
 pub reading-rises : (m : ℕ) (x : Content) (ps : List Procedure) → reading m x ≡ Ok (Some ps) → Rises procedure_rank ps
 reading-rises m x ps h = let r = reading-kept m x ps h in subst (Rises procedure_rank) (sym r.1) (in_order-rises r.0)

@@ -1,52 +1,6 @@
--- What a lookup and a comparison come to, by what their steps answer. Assumes nothing.
-use Rattle.std.proofs.Common.{◌≡◌, ℕ, suc, ◌+◌, ◌<◌, min, List, [], ◌∷◌, ◌++◌, map, length, get_or, take, drop, set, Some, None, Ok, Err, Option, Result, sym, ap, ◌∙◌, ap₂, ⊎_elim, append_assoc, arith}
-use Rattle.std.proofs.lemmas.List.{drop_all, take_at, drop_at, drop-drop, set_split, take_more, map_push, length-map, length-append, length-drop, length-take-le}
-use Rattle.std.proofs.lemmas.Bool.{cases_lt}
-use Rattle.base.specs.declared.refusal.Refusal.{Refusal}
-use Rattle.building.specs.Outcome.{Built}
-use Rattle.provider.specs.Modules.{Modules}
-use Rattle.procedures.specs.declared.function.Location.{Location}
-use Rattle.procedures.specs.declared.function.Function.{Function}
-use Rattle.lookup.specs.Reading.{Shelved, shelve}
-use Rattle.lookup.specs.Places.{locate}
-use Rattle.lookup.specs.Finding.{Found, function_at, answered, find_located, find_function}
-use Rattle.lookup.specs.Comparing.{Comparison, same_extent, with_second, with_first}
-
-module _ (text : List ℕ) (ms : Modules) (c : Built) (a : ℕ) (l : Location) (s : Shelved) (there : Some l ≡ locate c a) where
-  pub located_shelf : (shelve ms l.contribution.«module» s).shelf ≡ (find_function text ms c a s).shelf
-  located_shelf = ap (λ o. (find_located text ms c o s).shelf) there
-
-  pub located_answer : None ≡ (shelve ms l.contribution.«module» s).refusal → Ok (function_at text c.starts l (shelve ms l.contribution.«module» s).shelf.procedures) ≡ (find_function text ms c a s).answer
-  located_answer granted =
-      ap (λ o. answered text c l o (shelve ms l.contribution.«module» s).shelf) granted ∙ ap (λ o. (find_located text ms c o s).answer) there
-
-module _ (first : Found) (look_up : Shelved → Found) where
-  pub first-refused : (e : Refusal) → Err e ≡ first.answer → record { answer = Err e; shelf = first.shelf } ≡ with_first first look_up
-  first-refused e h =
-      ap (λ r. elim r as (λ _. Comparison) [ Ok f ↦ with_second f (look_up first.shelf) | Err x ↦ record { answer = Err x; shelf = first.shelf } ]) h
-
-  module _ (f : Option Function) (h : Ok f ≡ first.answer) where
-    go_on : with_second f (look_up first.shelf) ≡ with_first first look_up
-    go_on = ap (λ r. elim r as (λ _. Comparison) [ Ok x ↦ with_second x (look_up first.shelf) | Err x ↦ record { answer = Err x; shelf = first.shelf } ]) h
-
-    ended : Result (Option Function) Refusal → Comparison
-    ended r = record { answer = elim r [ Ok g ↦ Ok (same_extent f g) | Err e ↦ Err e ]; shelf = (look_up first.shelf).shelf }
-
-    pub second_refused : (e : Refusal) → Err e ≡ (look_up first.shelf).answer → record { answer = Err e; shelf = (look_up first.shelf).shelf } ≡ with_first first look_up
-    unfolding ended
-    second_refused e k = ap ended k ∙ go_on
-
-    pub both_answered : (g : Option Function) → Ok g ≡ (look_up first.shelf).answer → record { answer = Ok (same_extent f g); shelf = (look_up first.shelf).shelf } ≡ with_first first look_up
-    unfolding ended
-    both_answered g k = ap ended k ∙ go_on
-
--- as many answers as there are both addresses and rows for them
-pub drop_least : {X : Type 0} (xs : List X) (k n : ℕ) → k ≡ min n (length xs) → drop k xs ≡ drop n xs
-drop_least xs k n e =
-    ⊎_elim
-    (λ l. ap (λ i. drop i xs) (omega arith))
-    (λ l. drop_all k xs (omega arith) ∙ sym (drop_all n xs l))
-    (cases_lt n (length xs))
+-- A list of answers, one more at a time. Assumes nothing.
+use Rattle.std.proofs.Common.{◌≡◌, ℕ, suc, ◌+◌, ◌<◌, List, [], ◌∷◌, ◌++◌, map, length, get_or, take, drop, set, sym, ap, ◌∙◌, ap₂, append_assoc, arith}
+use Rattle.std.proofs.lemmas.List.{take_at, drop_at, drop-drop, set_split, take_more, map_push, length-map, length-append, length-drop, length-take-le}
 
 -- one answer more
 pub map_more : {X Y : Type 0} (f : X → Y) (xs : List X) (old rows : List Y) (k : ℕ) (d : X) (y : Y) → k < length xs → k < length old → y ≡ f (get_or xs k d) → rows ≡ map f (take k xs) ++ drop k old → set rows k y ≡ map f (take (k + 1) xs) ++ drop (k + 1) old

@@ -1,8 +1,8 @@
 -- The function of an address. Assumes nothing.
-use Rattle.std.specs.Prelude.{ℕ, ◌+◌, Bool, false, cond, not, ◌&&◌, List, Some, None, Ok, Err, Option, Result, ◌==◌, nat_eq, nat_le, nat_lt}
+use Rattle.std.specs.Prelude.{ℕ, ◌+◌, Bool, false, cond, not, ◌&&◌, List, Some, None, Ok, Err, Option, Result, ◌==◌, nat_le, nat_lt}
 use Rattle.std.specs.List.{slice_get}
-use Rattle.order.specs.Rank.{first, last, at, inside}
-use Rattle.base.specs.Rows.{offset_rank, start_rank}
+use Rattle.order.specs.Rank.{first, last, at}
+use Rattle.base.specs.Rows.{in_section, offset_rank, start_rank}
 use Rattle.base.specs.declared.image.SectionOffset.{SectionOffset}
 use Rattle.base.specs.declared.image.TextPart.{TextPart}
 use Rattle.base.specs.declared.context.KnownStart.{KnownStart}
@@ -20,7 +20,7 @@ use Rattle.lookup.specs.Places.{locate}
 
 -- a procedure contains a place of its own section only
 abbrev pub covers : SectionOffset → Procedure → Bool
-covers o p = p.offset.section == o.section && inside p.offset.offset (p.offset.offset + p.length) o.offset
+covers o p = in_section p.offset.section p.offset.offset (p.offset.offset + p.length) o
 
 -- of the procedures that contain a place, the one that starts last: they stand in rising order
 abbrev pub chosen : SectionOffset → List Procedure → Option Procedure
@@ -39,7 +39,7 @@ capped n = cond (nat_le n top) (Some n) None
 
 abbrev starts_with_mark : Option (List ℕ) → Bool
 starts_with_mark None = false
-starts_with_mark (Some bytes) = elim (slice_get bytes 0) [ None ↦ false | Some b ↦ nat_eq b 63 ]
+starts_with_mark (Some bytes) = elim (slice_get bytes 0) [ None ↦ false | Some b ↦ b == 63 ]
 
 -- a name that begins with "?"
 abbrev pub decorated : List ℕ → TextPart → Bool

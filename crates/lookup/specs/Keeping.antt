@@ -4,12 +4,12 @@ use Rattle.order.specs.Rank.{at}
 use Rattle.order.specs.Placed.{placed}
 use Rattle.base.specs.Rows.{offset_rank}
 use Rattle.base.specs.declared.image.SectionOffset.{SectionOffset}
-use Rattle.base.specs.declared.image.Ending.{Ending}
+use Rattle.base.specs.Lists.{Ending}
 use Rattle.base.specs.declared.refusal.Refusal.{Refusal}
 use Rattle.provider.specs.Modules.{Module}
 use Rattle.provider.specs.declared.symbols.Symbol.{Symbol}
 use Rattle.provider.specs.declared.symbols.Symbol.TheVariants.{Procedure as ProcedureSymbol, Thunk, SeparatedCode, InlineSite, Other}
-use Rattle.procedures.specs.Rows.{parent_rank, parent_meets}
+use Rattle.procedures.specs.Rows.{parent_rank, parent_meets, parent_of}
 use Rattle.procedures.specs.declared.row.Procedure.{Procedure}
 use Rattle.procedures.specs.declared.row.Parent.{Parent}
 use Rattle.lookup.specs.Reading.{unless_empty, in_order, all_kept, most_procedures}
@@ -25,21 +25,9 @@ kept_by parents k (SeparatedCode o length end parent) = adopted_by o length k en
 kept_by parents k (InlineSite inlinee end) = None
 kept_by parents k Other = None
 
-abbrev pub parent_of : Procedure → Parent
-parent_of p = record { offset = p.offset; name = p.name; type_number = p.type_number }
-
 -- a row for each offset where a procedure was kept, the last of each
 abbrev pub parents : List Procedure → List Parent
 parents ps = fold (λ xs p. placed parent_rank parent_meets (parent_of p) xs) [] ps
-
--- two tables hold what was kept so far
-pub record Holds (ps rows : List Procedure) (count : ℕ) (parent_rows : List Parent) (parent_count : ℕ) : Type 0 where
-  pub procedures_held : take count rows ≡ in_order ps
-  pub few : count ≤ length rows
-  pub long : length rows ≡ most_procedures
-  pub parents_held : take parent_count parent_rows ≡ parents ps
-  pub parents_few : parent_count ≤ length parent_rows
-  pub parents_long : length parent_rows ≡ most_procedures
 
 -- the symbols of a module have been read to their end, or up to a refusal
 abbrev pub Read : ℕ → Module → List Procedure → ℕ → Result Ending Refusal → Type 0

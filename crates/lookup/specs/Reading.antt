@@ -4,8 +4,7 @@ use Rattle.order.specs.Rank.{same, last}
 use Rattle.order.specs.Placed.{placed}
 use Rattle.base.specs.Rows.{offset_rank}
 use Rattle.base.specs.declared.image.SectionOffset.{SectionOffset}
-use Rattle.base.specs.declared.image.Ending.{Ending}
-use Rattle.base.specs.declared.image.Ending.TheVariants.{Clean, Fault as Faulty}
+use Rattle.base.specs.Lists.{Ending}
 use Rattle.base.specs.declared.refusal.Refusal.{Refusal}
 use Rattle.base.specs.declared.refusal.Refusal.TheVariants.{ProcedureOutside, TooManyProcedures}
 use Rattle.building.specs.Starts.{or_else}
@@ -65,8 +64,8 @@ all_kept m k before (r ∷ rs) = elim (with_kept m k before (kept before k r.sym
 
 -- a faulty list gives no information, but a refusal is met before the fault
 abbrev pub informed : Ending → List Procedure → Option (List Procedure)
-informed Clean ps = Some (in_order ps)
-informed (Faulty code) ps = None
+informed (Ok u) ps = Some (in_order ps)
+informed (Err code) ps = None
 
 abbrev pub ended : Ending → Result (List Procedure) Refusal → Result (Option (List Procedure)) Refusal
 ended end (Ok ps) = Ok (informed end ps)

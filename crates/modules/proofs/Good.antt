@@ -1,48 +1,44 @@
 -- Tables of which no row is bad. Assumes nothing.
-use Rattle.std.proofs.Common.{◌≡◌, ℕ, zero, suc, ◌+◌, ◌^◌, ◌<◌, ◌≤◌, Bool, true, false, cond, ltb, leb, List, [], ◌∷◌, length, drop, is_some, Some, None, Option, sym, refl, ap, ◌∙◌, subst, ⊎_elim, arith, lit<}
-use Rattle.std.proofs.lemmas.Bool.{and_parts, cond-true, cond-false, cases_Bool, leb-true, ltb-false}
+use Rattle.std.proofs.Common.{◌≡◌, ℕ, zero, suc, ◌+◌, ◌^◌, ◌<◌, ◌≤◌, Bool, true, false, cond, leb, List, [], ◌∷◌, length, drop, Some, None, Option, sym, refl, ap, ◌∙◌, subst, ⊎_elim, arith, lit<}
+use Rattle.std.proofs.lemmas.Bool.{and_parts, cond-true, cond-false, cases_Bool, leb-true}
+use Rattle.std.proofs.lemmas.Bool.Decides.{nat_tests}
 use Rattle.std.proofs.lemmas.List.{length-take}
 use Rattle.std.proofs.lemmas.Option.{slice_get_past}
 use Rattle.std.proofs.ByRecursion.{All-take, All-drop, All-weaker}
 use Rattle.std.specs.Option.{option_or}
 use Rattle.std.specs.List.{AllByRecursion, slice_get}
+use Rattle.base.specs.Rows.{offset_rank}
+use Rattle.image.specs.Checks.{name_within, crowded, outside}
 use Rattle.order.specs.Rank.{before, same, first, Rises}
 use Rattle.order.proofs.Ranks.{before_trans}
 use Rattle.order.proofs.Rows.{pairwise_cons, pairwise_from, in_order_from_rises}
 use Rattle.base.specs.declared.refusal.RowTable.{RowTable}
-use Rattle.base.specs.declared.refusal.RowTable.TheVariants.{Records, SiteLists, LineLists, Files}
+use Rattle.base.specs.declared.refusal.RowTable.TheVariants.{Modules, Records, SiteLists, LineLists, Files}
 use Rattle.provider.specs.declared.symbols.ModuleState.{ModuleState}
 use Rattle.provider.specs.declared.symbols.ModuleState.TheVariants.{Absent, Broken, Present}
 use Rattle.provider.specs.Modules.{Module, Regular, RegularModule, content, index_rank, nothing, state_of}
+use Rattle.provider.specs.Names.{symbol_within}
 use Rattle.modules.specs.declared.tables.RowRange.{RowRange}
 use Rattle.modules.specs.declared.tables.ModuleRow.{ModuleRow}
 use Rattle.modules.specs.declared.tables.SiteList.{SiteList}
 use Rattle.modules.specs.declared.tables.LineList.{LineList}
 use Rattle.modules.specs.declared.tables.ModuleRows.{ModuleRows}
-use Rattle.modules.specs.Ranks.{offset_key, site_rank, line_rank, file_rank}
+use Rattle.modules.specs.Ranks.{site_rank, line_rank, file_rank}
 use Rattle.modules.specs.Meaning.{part, site_rows_of, line_rows_of, module_of, content_of, row_content, modules_of, no_module, AnswersFor}
-use Rattle.modules.specs.BadRows.{most, name_within, symbol_within, rows_within, outside, unrisen, part_unrisen, parts_within, parts_unrisen, bad_module, bad_modules, bad_row}
-
-some-none : {X : Type 0} {G : Type 0} (x : X) → Some x ≡ None → G
-some-none x h = let z : ◌≡◌ {A = ℕ} 0 1 = cc in absurd (omega arith)
-
-pub none-some : {X : Type 0} (o : Option X) → is_some o ≡ false → o ≡ None
-none-some None h = refl
-none-some (Some x) h = let z : ◌≡◌ {A = ℕ} 0 1 = cc in absurd (omega arith)
+use Rattle.modules.specs.BadRows.{most, rows_within, unrisen, part_unrisen, parts_within, parts_unrisen, bad_module, bad_modules, bad_row}
 
 or_none : {X : Type 0} (a b : Option X) → option_or a b ≡ None → (a ≡ None) × (b ≡ None)
 or_none None b h = (refl, h)
-or_none (Some x) b h = some-none x h
+or_none (Some x) b h = cc
 
 -- a test whose failing is refused
 test_none : {X : Type 0} (b : Bool) (o : Option X) (x : X) → cond b o (Some x) ≡ None → (b ≡ true) × (o ≡ None)
 test_none true o x h = (refl, h)
-test_none false o x h = some-none x h
+test_none false o x h = cc
 
--- a test that is refused
-first_test : {X : Type 0} (b : Bool) (o : Option X) (x : X) → cond b (Some x) o ≡ None → (b ≡ false) × (o ≡ None)
-first_test true o x h = some-none x h
-first_test false o x h = (refl, h)
+-- a table that is not refused for its count
+few_enough : {X : Type 0} (table : RowTable) (most : ℕ) (xs : List X) → crowded table most xs ≡ None → length xs ≤ most
+few_enough table most xs h = grind (arith, nat_tests)
 
 all_within : {X : Type 0} (within : ℕ → X → Bool) (table : RowTable) (long k : ℕ) (xs : List X) → outside within table long k xs ≡ None → AllByRecursion (λ x. within long x ≡ true) xs
 all_within within table long k [] h = tt
@@ -94,7 +90,7 @@ good_module t k m h =
     }
 
 good_at : (t : ModuleRows) (k : ℕ) (ms : List ModuleRow) → bad_modules t k ms ≡ None → (j : ℕ) (m : ModuleRow) → slice_get ms j ≡ Some m → GoodModule t m
-good_at t k [] h j m e = some-none m (sym e)
+good_at t k [] h j m e = cc
 good_at t k (n ∷ ms) h zero m e =
     let p = or_none (bad_module t k n) (bad_modules t (k + 1) ms) h in
     let same : n ≡ m = cc in
@@ -112,13 +108,13 @@ pub record GoodRows (t : ModuleRows) : Type 0 where
 
 pub good_rows : (text : List ℕ) (t : ModuleRows) → bad_row text t ≡ None → GoodRows t
 good_rows text t h =
-    let p = first_test (ltb most (length t.modules.now)) _ _ h in
+    let p = or_none (crowded Modules most t.modules.now) _ h in
     let a = or_none (outside (λ long r. symbol_within long r.symbol) Records (length text) 0 t.symbols.now) _ p.1 in
     let b = or_none (outside (λ long f. name_within long f.name) Files (length text) 0 t.files.now) _ a.1 in
     let c = or_none (outside (λ long l. rows_within long l.rows) SiteLists (length t.site_rows.now) 0 t.site_lists.now) _ b.1 in
     let d = or_none (outside (λ long l. rows_within long l.rows) LineLists (length t.line_rows.now) 0 t.line_lists.now) _ c.1 in
     record {
-      few = ltb-false _ _ p.0;
+      few = few_enough Modules most t.modules.now p.0;
       site_lists = all_within (λ long l. rows_within long l.rows) SiteLists (length t.site_rows.now) 0 t.site_lists.now c.0;
       line_lists = all_within (λ long l. rows_within long l.rows) LineLists (length t.line_rows.now) 0 t.line_lists.now d.0;
       each = good_at t 0 t.modules.now d.1;
@@ -129,7 +125,7 @@ nothing_regular = record { rises = refl; few_symbols = lit< tt; few_site_rows = 
 
 -- what holds of all rows holds of the one that is found
 found_all : {X : Type 0} (P : X → Type 0) (test : X → Bool) (xs : List X) (x : X) → AllByRecursion P xs → first test xs ≡ Some x → P x
-found_all P test [] x a e = some-none x (sym e)
+found_all P test [] x a e = cc
 found_all P test (y ∷ ys) x a e =
     ⊎_elim
     (λ b. let same : y ≡ x = (let f = cond-true (test y) (Some y) (first test ys) b in cc) in subst P same a.0)
@@ -154,10 +150,10 @@ module _ (t : ModuleRows) (g : GoodRows t) where
     few_symbols = h.few_symbols;
     few_site_rows = λ site start.
         few_site_rows t _
-        (λ l e. found_all (λ l. rows_within (length t.site_rows.now) l.rows ≡ true) (λ l. same (site_rank l) (site ∷ offset_key start)) (part t.site_lists.now m.site_lists) l (part_all _ t.site_lists.now m.site_lists g.site_lists) e);
+        (λ l e. found_all (λ l. rows_within (length t.site_rows.now) l.rows ≡ true) (λ l. same (site_rank l) (site ∷ offset_rank start)) (part t.site_lists.now m.site_lists) l (part_all _ t.site_lists.now m.site_lists g.site_lists) e);
     few_line_rows = λ start.
         few_line_rows t _
-        (λ l e. found_all (λ l. rows_within (length t.line_rows.now) l.rows ≡ true) (λ l. same (line_rank l) (offset_key start)) (part t.line_lists.now m.line_lists) l (part_all _ t.line_lists.now m.line_lists g.line_lists) e);
+        (λ l e. found_all (λ l. rows_within (length t.line_rows.now) l.rows ≡ true) (λ l. same (line_rank l) (offset_rank start)) (part t.line_lists.now m.line_lists) l (part_all _ t.line_lists.now m.line_lists g.line_lists) e);
   }
 
   regular_content : (s : ModuleState) (m : Module) → RegularModule m → RegularModule (content (content_of s m))
@@ -170,9 +166,9 @@ module _ (t : ModuleRows) (g : GoodRows t) where
   regular_row (Some m) h = regular_content m.state (module_of t m) (regular_module m (h m refl))
 
 -- tables of which no row is bad mean what a provider may mean
-pub means_regular : (text : List ℕ) (t : ModuleRows) → is_some (bad_row text t) ≡ false → Regular (modules_of t)
+pub means_regular : (text : List ℕ) (t : ModuleRows) → bad_row text t ≡ None → Regular (modules_of t)
 means_regular text t h =
-    let g = good_rows text t (none-some (bad_row text t) h) in
+    let g = good_rows text t h in
     record {
       few = g.few;
       past = λ k l. ap (row_content t) (slice_get_past t.modules.now k l);
@@ -182,12 +178,9 @@ means_regular text t h =
 means-nothing : (t : ModuleRows) (k : ℕ) → content ((modules_of t).at k) ≡ nothing → AnswersFor t k no_module
 means-nothing t k e = record { means = e; site_lists = refl; line_lists = refl; files = refl }
 
-pub none_answers : (t : ModuleRows) (k : ℕ) → None ≡ slice_get t.modules.now k → AnswersFor t k no_module
-none_answers t k e = means-nothing t k (ap (λ o. content (row_content t o)) (sym e))
-
-pub present_answers : (text : List ℕ) (t : ModuleRows) → is_some (bad_row text t) ≡ false → (k : ℕ) (m : ModuleRow) → Some m ≡ slice_get t.modules.now k → m.state ≡ Present → AnswersFor t k m
+pub present_answers : (text : List ℕ) (t : ModuleRows) → bad_row text t ≡ None → (k : ℕ) (m : ModuleRow) → Some m ≡ slice_get t.modules.now k → m.state ≡ Present → AnswersFor t k m
 present_answers text t h k m e s =
-    let g = (good_rows text t (none-some (bad_row text t) h)).each k m (sym e) in
+    let g = (good_rows text t h).each k m (sym e) in
     record {
       means = ap (λ o. content (row_content t o)) (sym e) ∙ ap (λ p. content (content_of p (module_of t m))) s;
       site_lists = in_order_from_rises site_rank (part t.site_lists.now m.site_lists) g.site_lists;
@@ -199,6 +192,3 @@ state_kept : (s : ModuleState) (m : Module) → s ≡ state_of (content_of s m)
 state_kept Absent m = refl
 state_kept Broken m = refl
 state_kept Present m = refl
-
-pub state_at : (t : ModuleRows) (k : ℕ) (m : ModuleRow) → Some m ≡ slice_get t.modules.now k → m.state ≡ state_of ((modules_of t).at k)
-state_at t k m e = state_kept m.state (module_of t m) ∙ ap (λ o. state_of (row_content t o)) e

@@ -1,32 +1,19 @@
 -- Which row of the tables of modules is refused. Assumes nothing.
-use Rattle.std.specs.Prelude.{ℕ, ◌+◌, Bool, true, cond, ◌&&◌, List, [], ◌∷◌, length, Some, None, Option, nat_le, nat_lt}
+use Rattle.std.specs.Prelude.{ℕ, ◌+◌, Bool, cond, ◌&&◌, List, [], ◌∷◌, length, Some, None, Option, nat_le}
 use Rattle.std.specs.Option.{option_or}
 use Rattle.order.specs.Rank.{before}
-use Rattle.base.specs.declared.image.TextPart.{TextPart}
 use Rattle.base.specs.declared.refusal.Refusal.{Refusal}
 use Rattle.base.specs.declared.refusal.Refusal.TheVariants.{BadRow}
 use Rattle.base.specs.declared.refusal.RowTable.{RowTable}
 use Rattle.base.specs.declared.refusal.RowTable.TheVariants.{Modules, Records, SiteLists, LineLists, Files}
-use Rattle.provider.specs.declared.symbols.Symbol.{Symbol}
-use Rattle.provider.specs.declared.symbols.Symbol.TheVariants.{Procedure, Thunk, SeparatedCode, InlineSite, Other}
+use Rattle.image.specs.Checks.{name_within, crowded, outside}
 use Rattle.provider.specs.Modules.{index_rank}
+use Rattle.provider.specs.Names.{symbol_within}
 use Rattle.modules.specs.declared.tables.RowRange.{RowRange}
 use Rattle.modules.specs.declared.tables.ModuleRow.{ModuleRow}
 use Rattle.modules.specs.declared.tables.ModuleRows.{ModuleRows}
 use Rattle.modules.specs.Ranks.{site_rank, line_rank, file_rank}
 use Rattle.modules.specs.Meaning.{part}
-
--- whether a name is a part of a text of a length
-abbrev pub name_within : ℕ → TextPart → Bool
-name_within long p = nat_le (p.start + p.length) long
-
--- only procedures and thunks have a name
-abbrev pub symbol_within : ℕ → Symbol → Bool
-symbol_within long (Procedure offset length end type name) = name_within long name
-symbol_within long (Thunk offset length end name) = name_within long name
-symbol_within long (SeparatedCode offset length end parent) = true
-symbol_within long (InlineSite inlinee end) = true
-symbol_within long Other = true
 
 -- the most rows of a list
 abbrev top : ℕ
@@ -35,11 +22,6 @@ top = 4294967295
 -- whether rows lie inside a table of a length, and are a list
 abbrev pub rows_within : ℕ → RowRange → Bool
 rows_within long r = nat_le (r.first + r.count) long && nat_le r.count top
-
--- the first row that does not lie within the length; they are counted from k
-abbrev pub outside : {X : Type 0} → (ℕ → X → Bool) → RowTable → ℕ → ℕ → List X → Option Refusal
-outside within table long k [] = None
-outside within table long k (x ∷ xs) = cond (within long x) (outside within table long (k + 1) xs) (Some (BadRow table k))
 
 -- the first row that does not come after its neighbour before it; the first of all has the number k
 abbrev pub unrisen : {X : Type 0} → (X → List ℕ) → RowTable → ℕ → List X → Option Refusal
@@ -74,14 +56,14 @@ abbrev pub bad_modules : ModuleRows → ℕ → List ModuleRow → Option Refusa
 bad_modules t k [] = None
 bad_modules t k (m ∷ ms) = option_or (bad_module t k m) (bad_modules t (k + 1) ms)
 
--- the most modules, and so the number of the first one too many
+-- the most modules
 abbrev pub most : ℕ
 most = 65536
 
 -- the first of these that holds decides
 abbrev pub bad_row : List ℕ → ModuleRows → Option Refusal
 bad_row text t =
-    cond (nat_lt most (length t.modules.now)) (Some (BadRow Modules most))
+    option_or (crowded Modules most t.modules.now)
     (option_or (outside (λ long r. symbol_within long r.symbol) Records (length text) 0 t.symbols.now)
     (option_or (outside (λ long f. name_within long f.name) Files (length text) 0 t.files.now)
     (option_or (outside (λ long l. rows_within long l.rows) SiteLists (length t.site_rows.now) 0 t.site_lists.now)

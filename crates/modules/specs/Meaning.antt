@@ -2,7 +2,8 @@
 use Rattle.std.specs.Prelude.{◌≡◌, ℕ, List, [], ◌∷◌, length, take, drop, Some, None, Option}
 use Rattle.std.specs.List.{slice_get}
 use Rattle.order.specs.Rank.{InOrder, at}
-use Rattle.base.specs.declared.image.Ending.TheVariants.{Clean}
+use Rattle.base.specs.Lists.{clean}
+use Rattle.base.specs.Rows.{offset_rank}
 use Rattle.base.specs.declared.image.TextPart.{TextPart}
 use Rattle.provider.specs.declared.symbols.ModuleState.{ModuleState}
 use Rattle.provider.specs.declared.symbols.ModuleState.TheVariants.{Absent, Broken, Present}
@@ -15,7 +16,7 @@ use Rattle.modules.specs.declared.tables.SiteList.{SiteList}
 use Rattle.modules.specs.declared.tables.LineList.{LineList}
 use Rattle.modules.specs.declared.tables.FileRow.{FileRow}
 use Rattle.modules.specs.declared.tables.ModuleRows.{ModuleRows}
-use Rattle.modules.specs.Ranks.{site_rank, line_rank, file_rank, offset_key}
+use Rattle.modules.specs.Ranks.{site_rank, line_rank, file_rank}
 
 -- the part of a table that a row of another names
 abbrev pub part : {X : Type 0} → List X → RowRange → List X
@@ -39,8 +40,8 @@ module_of t m = record {
   symbols = part t.symbols.now m.symbols;
   symbols_end = m.symbols_end;
   extras = m.extras;
-  site_rows = λ site start. site_rows_of t (at site_rank (site ∷ offset_key start) (part t.site_lists.now m.site_lists));
-  line_rows = λ start. line_rows_of t (at line_rank (offset_key start) (part t.line_lists.now m.line_lists));
+  site_rows = λ site start. site_rows_of t (at site_rank (site ∷ offset_rank start) (part t.site_lists.now m.site_lists));
+  line_rows = λ start. line_rows_of t (at line_rank (offset_rank start) (part t.line_lists.now m.line_lists));
   file = λ number. name_of (at file_rank (number ∷ []) (part t.files.now m.files));
 }
 
@@ -69,8 +70,8 @@ abbrev pub no_module : ModuleRow
 no_module = record {
   state = Absent;
   symbols = no_rows;
-  symbols_end = Clean;
-  extras = Clean;
+  symbols_end = clean;
+  extras = clean;
   site_lists = no_rows;
   line_lists = no_rows;
   files = no_rows;

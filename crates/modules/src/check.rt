@@ -1,56 +1,25 @@
 // Which row of the tables is refused.
-ghost use Rattle.std.specs.Prelude.{◌≡◌, ℕ, ◌^◌, ◌<◌, Bool, List, length};
+ghost use Rattle.std.specs.Prelude.{◌≡◌, not, drop, length, ◌<◌, IfSome};
+ghost use Rattle.std.specs.List.{position, zip};
+ghost use Rattle.std.specs.Result.{result_err};
+ghost use Rattle.image.specs.Checks.{name_within};
 ghost use Rattle.order.specs.Rank.{before};
-ghost use Rattle.provider.specs.Modules.{index_rank};
-ghost use Rattle.modules.specs.Ranks.{site_rank, line_rank, file_rank};
-ghost use Rattle.modules.specs.Meaning.{part};
-ghost use Rattle.modules.specs.BadRows.{name_within, symbol_within, rows_within, outside, unrisen, part_unrisen, parts_within, parts_unrisen, bad_module, bad_modules, bad_row};
+ghost use Rattle.modules.specs.BadRows.{rows_within, part_unrisen, parts_within, parts_unrisen, bad_module, bad_modules, bad_row};
 
 use crate::tables::{FileRow, LineList, ModuleRow, ModuleRows, RowRange, SiteList};
-use base::image::TextPart;
 use base::refusal::{Refusal, RowTable};
+use image::check::{Part, check_count, check_parts};
 use order::Row;
-use provider::symbols::{Symbol, SymbolRecord};
-use std::cmp::Ordering;
 
 // The most modules: a module's number has 16 bits.
 const MOST_MODULES: usize = 65_536;
-
-// A row that names a part of a text, or of another table.
-trait Part {
-    ghost within: { ℕ → Self → Bool };
-
-    // Whether it lies inside something that is so long.
-    fn is_within(&self, long: usize) -> bool
-        ensures { result ≡ within long self.now };
-}
-
-impl Part for TextPart {
-    ghost within = { name_within };
-
-    fn is_within(&self, long: usize) -> bool {
-        self.start as u64 + self.length as u64 <= long as u64
-    }
-}
 
 // A count is below 2^32, so that no list is too long.
 impl Part for RowRange {
     ghost within = { rows_within };
 
     fn is_within(&self, long: usize) -> bool {
-        self.first as u64 + self.count as u64 <= long as u64
-    }
-}
-
-impl Part for SymbolRecord {
-    ghost within = { λ long r. symbol_within long r.symbol };
-
-    fn is_within(&self, long: usize) -> bool {
-        match self.symbol {
-            Symbol::Procedure { name, .. } => name.is_within(long),
-            Symbol::Thunk { name, .. } => name.is_within(long),
-            _ => true,
-        }
+        u64::from(self.first) + u64::from(self.count) <= long as u64
     }
 }
 
@@ -78,147 +47,38 @@ impl Part for LineList {
     }
 }
 
-// A row with a key, by which the rows of a part rise.
-trait Keyed {
-    ghost key: { Self → List ℕ };
-
-    fn comes_before(&self, next: &Self) -> bool
-        ensures { result ≡ before (key self.now) (key next.now) };
-}
-
-impl Keyed for SymbolRecord {
-    ghost key = { index_rank };
-
-    fn comes_before(&self, next: &SymbolRecord) -> bool {
-        self.index < next.index
-    }
-}
-
-impl Keyed for SiteList {
-    ghost key = { site_rank };
-
-    fn comes_before(&self, next: &SiteList) -> bool {
-        is_less(self, next)
-    }
-}
-
-impl Keyed for LineList {
-    ghost key = { line_rank };
-
-    fn comes_before(&self, next: &LineList) -> bool {
-        is_less(self, next)
-    }
-}
-
-impl Keyed for FileRow {
-    ghost key = { file_rank };
-
-    fn comes_before(&self, next: &FileRow) -> bool {
-        is_less(self, next)
-    }
-}
-
-fn is_less<R: Row>(row: &R, next: &R) -> bool
-    ensures { result ≡ before (R.Row.rank row.now) (R.Row.rank next.now) }
-{
-    match row.compare(next) {
-        Ordering::Less => true,
-        _ => false,
-    }
-}
-
-// The refusal of the first row that does not lie within the length.
-fn first_outside<R: Part>(rows: &[R], table: RowTable, long: usize) -> Option<Refusal>
-    ensures { result ≡ outside R.Part.within table long 0 rows.now }
-{
-    for (i, row) in rows.iter().enumerate() {
-        if !row.is_within(long) {
-            return Some(Refusal::BadRow {
-                table,
-                row: i as u64,
-            });
-        }
-    }
-    None
-}
-
-// The refusal of the first row that does not come after its neighbour, where the first of all has the number `first`.
-fn first_unrisen<R: Keyed>(rows: &[R], table: RowTable, first: u32) -> Option<Refusal>
-    requires { length rows.now < 2 ^ 32 }
-    ensures { result ≡ unrisen R.Keyed.key table first rows.now }
-{
-    for i in 1..rows.len() {
-        if !rows[i - 1].comes_before(&rows[i]) {
-            return Some(Refusal::BadRow {
-                table,
-                row: first as u64 + i as u64,
-            });
-        }
-    }
-    None
-}
-
-fn part_unrisen<R: Keyed>(rows: &[R], range: RowRange, table: RowTable) -> Option<Refusal>
-    ensures { result ≡ part_unrisen R.Keyed.key table rows.now range }
-{
-    first_unrisen(range.of(rows), table, range.first)
-}
-
 impl ModuleRows<'_> {
-    // The refusal of the first row that no provider may hold, if names are parts of `text`.
-    pub fn bad_row(&self, text: &[u8]) -> Option<Refusal>
-        ensures { result ≡ bad_row text.now self.now }
+    // The first row that no provider may hold is refused, if names are parts of `text`.
+    pub fn check(&self, text: &[u8]) -> Result<(), Refusal>
+        ensures { result_err result ≡ bad_row text.now self.now }
     {
-        if self.modules.len() > MOST_MODULES {
-            return Some(Refusal::BadRow {
-                table: RowTable::Modules,
-                row: MOST_MODULES as u64,
-            });
-        }
-        if let Some(refusal) = first_outside(self.symbols, RowTable::Records, text.len()) {
-            return Some(refusal);
-        }
-        if let Some(refusal) = first_outside(self.files, RowTable::Files, text.len()) {
-            return Some(refusal);
-        }
-        if let Some(refusal) = first_outside(
-            self.site_lists,
-            RowTable::SiteLists,
-            self.site_rows.len(),
-        ) {
-            return Some(refusal);
-        }
-        if let Some(refusal) = first_outside(
-            self.line_lists,
-            RowTable::LineLists,
-            self.line_rows.len(),
-        ) {
-            return Some(refusal);
-        }
-        self.bad_modules()
+        check_count(self.modules, RowTable::Modules, MOST_MODULES)?;
+        check_parts(self.symbols, RowTable::Records, text.len())?;
+        check_parts(self.files, RowTable::Files, text.len())?;
+        check_parts(self.site_lists, RowTable::SiteLists, self.site_rows.len())?;
+        check_parts(self.line_lists, RowTable::LineLists, self.line_rows.len())?;
+        self.check_modules()
     }
 
-    fn bad_modules(&self) -> Option<Refusal>
-        ensures { result ≡ bad_modules self.now 0 self.now.modules.now }
+    fn check_modules(&self) -> Result<(), Refusal>
+        ensures { result_err result ≡ bad_modules self.now 0 self.now.modules.now }
     {
         for (i, row) in self.modules.iter().enumerate() {
-            if let Some(refusal) = self.bad_module(row, i) {
-                return Some(refusal);
-            }
+            self.check_module(row, i)?;
         }
-        None
+        Ok(())
     }
 
-    fn bad_module(&self, row: &ModuleRow, number: usize) -> Option<Refusal>
-        ensures { result ≡ bad_module self.now number row.now }
+    fn check_module(&self, row: &ModuleRow, number: usize) -> Result<(), Refusal>
+        ensures { result_err result ≡ bad_module self.now number row.now }
     {
         if !self.has_parts(row) {
-            return Some(Refusal::BadRow {
+            return Err(Refusal::BadRow {
                 table: RowTable::Modules,
                 row: number as u64,
             });
         }
-        self.parts_unrisen(row)
+        self.check_order(row)
     }
 
     fn has_parts(&self, row: &ModuleRow) -> bool
@@ -230,18 +90,43 @@ impl ModuleRows<'_> {
             && row.files.is_within(self.files.len())
     }
 
-    fn parts_unrisen(&self, row: &ModuleRow) -> Option<Refusal>
-        ensures { result ≡ parts_unrisen self.now row.now }
+    fn check_order(&self, row: &ModuleRow) -> Result<(), Refusal>
+        ensures { result_err result ≡ parts_unrisen self.now row.now }
     {
-        if let Some(refusal) = part_unrisen(self.symbols, row.symbols, RowTable::Records) {
-            return Some(refusal);
-        }
-        if let Some(refusal) = part_unrisen(self.site_lists, row.site_lists, RowTable::SiteLists) {
-            return Some(refusal);
-        }
-        if let Some(refusal) = part_unrisen(self.line_lists, row.line_lists, RowTable::LineLists) {
-            return Some(refusal);
-        }
-        part_unrisen(self.files, row.files, RowTable::Files)
+        check_part_rises(self.symbols, row.symbols, RowTable::Records)?;
+        check_part_rises(self.site_lists, row.site_lists, RowTable::SiteLists)?;
+        check_part_rises(self.line_lists, row.line_lists, RowTable::LineLists)?;
+        check_part_rises(self.files, row.files, RowTable::Files)
     }
+}
+
+// The first row of a part that does not come after its neighbour is refused, by its number in the whole table.
+#[tactic(auto, using(crate::proofs::Searches::unrisen_position))]
+fn check_part_rises<R: Row>(rows: &[R], range: RowRange, table: RowTable) -> Result<(), Refusal>
+    ensures { result_err result ≡ part_unrisen R.Row.rank table rows.now range }
+{
+    match first_unrisen(range.of(rows)) {
+        Some(before) => Err(Refusal::BadRow {
+            table,
+            row: u64::from(range.first) + before as u64 + 1,
+        }),
+        None => Ok(()),
+    }
+}
+
+// The first row that its neighbour does not come after.
+fn first_unrisen<R: Row>(rows: &[R]) -> Option<usize>
+    ensures place { result ≡ position (λ p. not (before (R.Row.rank p.0) (R.Row.rank p.1))) (zip rows.now (drop 1 rows.now)) }
+    ensures bound { IfSome result (λ i. i < length rows.now) }
+{
+    rows.iter()
+        .zip(rows.iter().skip(1))
+        .position(|(row, next)| !comes_before(row, next))
+}
+
+#[tactic(auto, using(crate::proofs::Searches::less_before))]
+fn comes_before<R: Row>(row: &R, next: &R) -> bool
+    ensures { result ≡ before (R.Row.rank row.now) (R.Row.rank next.now) }
+{
+    row.compare(next).is_lt()
 }

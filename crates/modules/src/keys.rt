@@ -1,10 +1,8 @@
-// The rows that are found by a key. Each key stands once in its part, so the first row of a key is the only one.
-ghost use Rattle.order.specs.Rank.{Compared};
+// The rows that are found by a key. None is ever inserted, so that `meet` says only what an insertion would do. Each key stands once in its part, so the first row of a key is the only one.
 ghost use Rattle.order.specs.declared.Meeting.TheVariants.{Stays};
-ghost use Rattle.modules.specs.Ranks.{site_rank, line_rank, file_rank, offset_key};
+ghost use Rattle.modules.specs.Ranks.{site_rank, line_rank, file_rank};
 
 use crate::tables::{FileRow, LineList, SiteList};
-use base::image::SectionOffset;
 use order::{Meeting, Row};
 use std::cmp::Ordering;
 
@@ -16,7 +14,7 @@ impl Row for SiteList {
     fn compare(&self, other: &SiteList) -> Ordering {
         self.site
             .cmp(&other.site)
-            .then(by_offset(self.start, other.start))
+            .then(self.start.cmp(&other.start))
     }
 
     fn meet(&self, _newer: &SiteList) -> Meeting {
@@ -30,7 +28,7 @@ impl Row for LineList {
     ghost meets = { λ r s. Stays };
 
     fn compare(&self, other: &LineList) -> Ordering {
-        by_offset(self.start, other.start)
+        self.start.cmp(&other.start)
     }
 
     fn meet(&self, _newer: &LineList) -> Meeting {
@@ -50,12 +48,4 @@ impl Row for FileRow {
     fn meet(&self, _newer: &FileRow) -> Meeting {
         Meeting::Stays
     }
-}
-
-fn by_offset(one: SectionOffset, other: SectionOffset) -> Ordering
-    ensures { Compared result (offset_key one) (offset_key other) }
-{
-    one.section
-        .cmp(&other.section)
-        .then(one.offset.cmp(&other.offset))
 }

@@ -2,7 +2,8 @@
 use base::image::{Ending, SectionOffset, TextPart};
 use provider::symbols::{LineRow, ModuleState, SiteRow, SymbolRecord};
 
-#[derive(Clone, Copy)]
+// Rows of another table, by their numbers: the tables are the caller's, and nothing is copied.
+#[derive(Clone, Copy, Default)]
 pub struct RowRange {
     pub first: u32,
     pub count: u32,
@@ -20,7 +21,7 @@ pub struct ModuleRow {
     pub files: RowRange,
 }
 
-// The site rows of the site at an index, for a walk from a start.
+// The site rows of the site at an index, for a walk from a start. Not one type with `LineList`: a caller writes the parts of the key as fields.
 #[derive(Clone, Copy)]
 pub struct SiteList {
     pub site: u32,
@@ -43,7 +44,7 @@ pub struct FileRow {
     pub name: TextPart,
 }
 
-#[derive(Clone, Copy)]
+#[derive(Clone, Copy, Default)]
 pub struct ModuleRows<'a> {
     pub modules: &'a [ModuleRow],
     pub symbols: &'a [SymbolRecord],

@@ -1,14 +1,14 @@
 -- What an insertion into the used rows of a table leaves. Assumes nothing.
-use Rattle.std.proofs.Common.{◌≡◌, ℕ, suc, ◌+◌, ◌-◌, ◌<◌, ◌≤◌, min, true, false, List, [], ◌∷◌, ◌++◌, length, get_or, take, drop, set, Some, None, Option, sym, refl, ap, ◌∙◌, subst, ⊎_elim, arith, drop-cons}
-use Rattle.std.proofs.lemmas.List.{same_lists, take-append-drop, set_split, set-append_left, length-set, length-take-le, length-append, length-drop, drop_all, get_or_append_left, get_or-append_right, get_or-take, get_or-drop, take_all}
+use Rattle.std.proofs.Common.{◌≡◌, ℕ, suc, ◌+◌, ◌-◌, ◌<◌, ◌≤◌, min, true, false, List, [], ◌∷◌, ◌++◌, length, get_or, take, drop, set, Some, sym, ap, ◌∙◌, subst, ⊎_elim, arith, drop-cons}
+use Rattle.std.proofs.lemmas.List.{same_lists, take-append-drop, set_split, set-append_left, length-set, length-take-le, length-append, length-drop, drop_all, take-append-le, get_or_append_left, get_or-append_right, get_or-take, get_or-drop, take_all}
 use Rattle.std.proofs.lemmas.List.Edits.{length-insert, get_or-insert_below, get_or-insert_at, get_or-insert_above}
 use Rattle.std.proofs.lemmas.Bool.{cases_lt, cond-true, cond-false}
 use Rattle.std.specs.List.{insert}
 use Rattle.order.specs.declared.Meeting.{Meeting}
 use Rattle.order.specs.declared.Meeting.TheVariants.{Stays, GivesWay, Both}
-use Rattle.order.specs.Rank.{before, same}
+use Rattle.order.specs.Rank.{before, same, InOrder}
 use Rattle.order.specs.Placed.{met, placed, changed, Place, Settled}
-use Rattle.order.proofs.Rows.{placed_split}
+use Rattle.order.proofs.Rows.{placed_split, in_order-placed}
 
 -- the rows from p up to n have moved up by one, and r stands at p
 pub shifted : {X : Type 0} (old new : List X) (p n : ℕ) (r : X) → p ≤ n → n < length old → length new ≡ length old → ((k : ℕ) (d : X) → k < p → get_or new k d ≡ get_or old k d) → ((d : X) → get_or new p d ≡ r) → ((k : ℕ) (d : X) → p ≤ k → k < n → get_or new (k + 1) d ≡ get_or old k d) → ((k : ℕ) (d : X) → n < k → get_or new k d ≡ get_or old k d) → new ≡ insert (take n old) p r ++ drop (n + 1) old
@@ -72,32 +72,30 @@ module _ {X : Type 0} (rank : X → List ℕ) (meets : X → X → Meeting) (r :
       let o : drop p xs ≡ [] = drop_all p xs l in
       split ∙ ap (λ ys. take p xs ++ placed rank meets r ys) o ∙ ap (λ ys. take p xs ++ r ∷ ys) (sym o)
 
--- the same of a table of which the first n rows are used
-module _ {X : Type 0} (rank : X → List ℕ) (meets : X → X → Meeting) (rows : List X) (n : ℕ) (r : X) (p : ℕ) (few : n ≤ length rows) where
-  used : length (take n rows) ≡ n
-  used = length-take-le n rows few
+-- the same of a table of which the first n rows, xs, are used
+module _ {X : Type 0} (rank : X → List ℕ) (meets : X → X → Meeting) (rows : List X) (n : ℕ) (r : X) (p : ℕ) (few : n ≤ length rows) (xs : List X) (used : xs ≡ take n rows) where
+  long : length xs ≡ n
+  long = ap length used ∙ length-take-le n rows few
 
-  pub settled_stays : placed rank meets r (take n rows) ≡ take n rows → Settled rank meets rows n r (Some n) rows
-  settled_stays e = (sym (ap length e ∙ used), few, sym (ap (λ ys. ys ++ drop n rows) e ∙ take-append-drop n rows))
+  back : xs ++ drop n rows ≡ rows
+  back = ap (λ ys. ys ++ drop n rows) used ∙ take-append-drop n rows
 
-  pub settled_gives_way : p < n → placed rank meets r (take n rows) ≡ set (take n rows) p r → Settled rank meets rows n r (Some n) (set rows p r)
+  same_used : placed rank meets r xs ≡ placed rank meets r (take n rows)
+  same_used = ap (placed rank meets r) used
+
+  pub settled_gives_way : p < length xs → placed rank meets r xs ≡ set xs p r → Settled rank meets rows n r (Some n) (set rows p r)
   settled_gives_way l e = (
-    sym (ap length e ∙ length-set (take n rows) p r ∙ used),
+    sym (ap length (sym same_used ∙ e) ∙ length-set xs p r ∙ long),
     few,
-    ap (λ ys. set ys p r) (sym (take-append-drop n rows)) ∙ set-append_left (take n rows) (drop n rows) p r (rw used l) ∙ sym (ap (λ ys. ys ++ drop n rows) e),
+    ap (λ ys. set ys p r) (sym back) ∙ set-append_left xs (drop n rows) p r l ∙ ap (λ ys. ys ++ drop n rows) (sym e ∙ same_used),
   )
 
-  pub settled_new : p ≤ n → n < length rows → placed rank meets r (take n rows) ≡ insert (take n rows) p r → Settled rank meets rows n r (Some (n + 1)) (insert (take n rows) p r ++ drop (n + 1) rows)
-  settled_new l m e = (
-    sym (ap length e ∙ length-insert (take n rows) p r (rw used l) ∙ ap (λ k. k + 1) used),
+  pub settled_new : p ≤ length xs → n < length rows → placed rank meets r xs ≡ insert xs p r → (rows' : List X) → rows' ≡ insert (take n rows) p r ++ drop (n + 1) rows → Settled rank meets rows n r (Some (n + 1)) rows'
+  settled_new l m e rows' f = (
+    sym (ap length (sym same_used ∙ e) ∙ length-insert xs p r l ∙ ap (λ k. k + 1) long),
     omega arith,
-    ap (λ ys. ys ++ drop (n + 1) rows) (sym e),
+    f ∙ ap (λ ys. insert ys p r ++ drop (n + 1) rows) (sym used) ∙ ap (λ ys. ys ++ drop (n + 1) rows) (sym e ∙ same_used),
   )
-
-  pub settled_full : p ≤ n → length rows ≤ n → placed rank meets r (take n rows) ≡ insert (take n rows) p r → Settled rank meets rows n r None rows
-  settled_full l m e =
-      let long : length (placed rank meets r (take n rows)) ≡ n + 1 = ap length e ∙ length-insert (take n rows) p r (rw used l) ∙ ap (λ k. k + 1) used in
-      (omega arith, refl)
 
 pub take_min : {X : Type 0} (rows : List X) (m n : ℕ) → m ≡ min n (length rows) → take m rows ≡ take n rows
 take_min rows m n e =
@@ -106,7 +104,8 @@ take_min rows m n e =
     (λ l. take_all m rows (omega arith) ∙ sym (take_all n rows l))
     (cases_lt n (length rows))
 
--- only the used rows count
-pub settled_used : {X : Type 0} (rank : X → List ℕ) (meets : X → X → Meeting) (rows : List X) (m n : ℕ) (r : X) (o : Option ℕ) (rows' : List X) → take m rows ≡ take n rows → Settled rank meets rows m r o rows' → Settled rank meets rows n r o rows'
-settled_used rank meets rows m n r None rows' e h = (subst (λ xs. length rows < length (placed rank meets r xs)) e h.0, h.1)
-settled_used rank meets rows m n r (Some k) rows' e h = (h.0 ∙ ap (λ xs. length (placed rank meets r xs)) e, h.1, h.2 ∙ ap (λ xs. placed rank meets r xs ++ drop k rows) e)
+-- what an insertion leaves in order
+pub settled_in_order : {X : Type 0} (rank : X → List ℕ) (meets : X → X → Meeting) (rows : List X) (count n : ℕ) (r : X) (rows' : List X) → InOrder rank (take count rows) → Settled rank meets rows count r (Some n) rows' → InOrder rank (take n rows')
+settled_in_order rank meets rows count n r rows' ord h =
+    let cut : take n rows' ≡ placed rank meets r (take count rows) = ap (take n) h.2 ∙ take-append-le n (placed rank meets r (take count rows)) (drop n rows) (omega (arith, h.0)) ∙ take_all n (placed rank meets r (take count rows)) (omega (arith, h.0)) in
+    subst (InOrder rank) (sym cut) (in_order-placed rank meets r (take count rows) ord)

@@ -1,6 +1,8 @@
 -- Lists of rows in order, and what one more row does to them. Assumes nothing.
 use Rattle.std.proofs.Common.{◌≡◌, ℕ, zero, suc, ◌+◌, ◌<◌, ◌≤◌, Bool, true, false, cond, not, List, [], ◌∷◌, ◌++◌, length, get_or, take, drop, is_some, Some, None, Option, sym, refl, ap, ◌∙◌, subst, ⊎_elim, arith}
-use Rattle.std.proofs.lemmas.Bool.{both_ways, cases_Bool, cond-true, cond-false, not-true, and_parts, and_from}
+use Rattle.std.proofs.lemmas.Bool.{both_ways, cases_Bool, cond-true, cond-false, not-true, not_from_false, and_parts, and_from}
+use Rattle.std.proofs.Math.Nat.{zero-add, add-suc, add_left_comm}
+use Rattle.std.proofs.Math.Numerals.{one-add}
 use Rattle.std.proofs.ByRecursion.{All-get_or, All-weaker}
 use Rattle.std.specs.List.{AllByRecursion}
 use Rattle.order.specs.declared.Meeting.{Meeting}
@@ -40,22 +42,6 @@ pairwise-at test (x ∷ xs) h zero zero d l m = absurd (omega arith)
 pairwise-at test (x ∷ xs) h zero (suc j) d l m = All-get_or (λ y. test x y ≡ true) xs j d (omega arith) (pairwise_cons test x xs h).0
 pairwise-at test (x ∷ xs) h (suc i) zero d l m = absurd (omega arith)
 pairwise-at test (x ∷ xs) h (suc i) (suc j) d l m = pairwise-at test xs (pairwise_cons test x xs h).1 i j d (omega arith) (omega arith)
-
-not_is : (b : Bool) → b ≡ false → not b ≡ true
-not_is true h = absurd (both_ways true h refl)
-not_is false h = refl
-
-suc_through : (m n : ℕ) → suc (m + n) ≡ m + suc n
-suc_through m n = omega arith
-
-zero_plus : (n : ℕ) → n ≡ 0 + n
-zero_plus n = omega arith
-
-one_plus : (n : ℕ) → suc n ≡ 1 + n
-one_plus n = omega arith
-
-swap_plus : (a b n : ℕ) → a + (b + n) ≡ b + (a + n)
-swap_plus a b n = omega arith
 
 pub same_flip : (a b : List ℕ) → same a b ≡ false → same b a ≡ false
 same_flip a b h =
@@ -102,7 +88,7 @@ module _ {X : Type 0} (rank : X → List ℕ) (meets : X → X → Meeting) wher
   upto_all : (r x : X) (xs : List X) → before (rank x) (rank r) ≡ false → AllByRecursion (λ y. Upto x y ≡ true) xs → AllByRecursion (λ y. Upto r y ≡ true) xs
   upto_all r x xs b a =
       All-weaker (λ y. Upto x y ≡ true) (λ y. Upto r y ≡ true)
-      (λ y u. ⊎_elim (λ k. absurd (both_ways _ (not-true _ u) (before-upto (rank y) (rank r) (rank x) k b))) (λ k. not_is _ k) (cases_Bool (before (rank y) (rank r))))
+      (λ y u. ⊎_elim (λ k. absurd (both_ways _ (not-true _ u) (before-upto (rank y) (rank r) (rank x) k b))) (λ k. not_from_false _ k) (cases_Bool (before (rank y) (rank r))))
       xs a
 
   before_all : (r x : X) (xs : List X) → before (rank x) (rank r) ≡ false → AllByRecursion (λ y. Before x y ≡ true) xs → AllByRecursion (λ y. Before r y ≡ true) xs
@@ -116,18 +102,18 @@ module _ {X : Type 0} (rank : X → List ℕ) (meets : X → X → Meeting) wher
   in_order-placed r (x ∷ xs) h =
       let p = pairwise_cons Upto x xs h in
       by_place r x xs
-      (λ b e. subst (InOrder rank) (sym e) (pairwise_from Upto x _ (placed_all (λ y. Upto x y ≡ true) r xs p.0 (not_is _ (before_asym (rank x) (rank r) b))) (in_order-placed r xs p.1)))
+      (λ b e. subst (InOrder rank) (sym e) (pairwise_from Upto x _ (placed_all (λ y. Upto x y ≡ true) r xs p.0 (not_from_false _ (before_asym (rank x) (rank r) b))) (in_order-placed r xs p.1)))
       (λ s e. subst (InOrder rank) (sym e) (
       let n = not_before_self (rank x) (rank r) s in
       let a = upto_all r x xs n p.0 in
       elim (meets x r) as (λ m. InOrder rank (met m x r xs)) [
         | Stays ↦ h
         | GivesWay ↦ pairwise_from Upto r xs a p.1
-        | Both ↦ pairwise_from Upto r (x ∷ xs) (not_is _ n, a) h
+        | Both ↦ pairwise_from Upto r (x ∷ xs) (not_from_false _ n, a) h
       ]))
       (λ b e. subst (InOrder rank) (sym e) (
       let n = before_asym (rank r) (rank x) b in
-      pairwise_from Upto r (x ∷ xs) (not_is _ n, upto_all r x xs n p.0) h))
+      pairwise_from Upto r (x ∷ xs) (not_from_false _ n, upto_all r x xs n p.0) h))
 
   pub rises-placed : ((x r : X) → meets x r ≡ Both → ⊥) → (r : X) (xs : List X) → Rises rank xs → Rises rank (placed rank meets r xs)
   rises-placed one r [] h = pairwise_from Before r [] tt h
@@ -199,7 +185,7 @@ module _ {X : Type 0} (rank : X → List ℕ) (meets : X → X → Meeting) wher
       let back : at rank (rank r) (x ∷ xs) ≡ at rank (rank r) xs = cond-false _ _ _ n in
       let ih = length-placed one r xs p.1 in
       let f : length (placed rank meets r (x ∷ xs)) ≡ suc (length (placed rank meets r xs)) = ap length e in
-      f ∙ ap suc ih ∙ suc_through _ _ ∙ ap (λ o. cond (is_some o) 0 1 + suc (length xs)) (sym back))
+      f ∙ ap suc ih ∙ sym (add-suc _ _) ∙ ap (λ o. cond (is_some o) 0 1 + suc (length xs)) (sym back))
       (λ s e.
       let m : same (rank x) (rank r) ≡ true = rw s (same_refl (rank r)) in
       let here : at rank (rank r) (x ∷ xs) ≡ Some x = cond-true _ _ _ m in
@@ -208,10 +194,10 @@ module _ {X : Type 0} (rank : X → List ℕ) (meets : X → X → Meeting) wher
         | Stays ↦ λ _. refl
         | GivesWay ↦ λ _. refl
         | Both ↦ λ no'. absurd (no' refl)
-      ]) (one x r)) ∙ zero_plus _ ∙ ap (λ o. cond (is_some o) 0 1 + suc (length xs)) (sym here))
+      ]) (one x r)) ∙ sym (zero-add _) ∙ ap (λ o. cond (is_some o) 0 1 + suc (length xs)) (sym here))
       (λ b e.
       let a : AllByRecursion (λ y. Before r y ≡ true) (x ∷ xs) = (b, before_all r x xs (before_asym (rank r) (rank x) b) p.0) in
-      ap length e ∙ one_plus _ ∙ ap (λ o. cond (is_some o) 0 1 + suc (length xs)) (sym (at_none r (x ∷ xs) a)))
+      ap length e ∙ sym (one-add _) ∙ ap (λ o. cond (is_some o) 0 1 + suc (length xs)) (sym (at_none r (x ∷ xs) a)))
 
   -- where equals all stand, there is always one row more
   pub length-placed_both : ((x r : X) → meets x r ≡ Both) → (r : X) (xs : List X) → length (placed rank meets r xs) ≡ suc (length xs)
@@ -226,7 +212,7 @@ module _ {X : Type 0} (rank : X → List ℕ) (meets : X → X → Meeting) wher
   tally-placed_both all q r [] = refl
   tally-placed_both all q r (x ∷ xs) =
       by_place r x xs
-      (λ b e. ap (tally rank q) e ∙ ap (λ n. cond (same (rank x) q) 1 0 + n) (tally-placed_both all q r xs) ∙ swap_plus _ _ _)
+      (λ b e. ap (tally rank q) e ∙ ap (λ n. cond (same (rank x) q) 1 0 + n) (tally-placed_both all q r xs) ∙ add_left_comm _ _ _)
       (λ s e. ap (tally rank q) e ∙ ap (λ k. tally rank q (met k x r xs)) (all x r))
       (λ b e. ap (tally rank q) e)
 
@@ -253,5 +239,5 @@ in_order_from_rises rank [] h = refl
 in_order_from_rises rank (x ∷ xs) h =
     let p = pairwise_cons (λ a b. before (rank a) (rank b)) x xs h in
     pairwise_from (λ a b. not (before (rank b) (rank a))) x xs
-    (All-weaker (λ y. before (rank x) (rank y) ≡ true) (λ y. not (before (rank y) (rank x)) ≡ true) (λ y u. not_is _ (before_asym (rank x) (rank y) u)) xs p.0)
+    (All-weaker (λ y. before (rank x) (rank y) ≡ true) (λ y. not (before (rank y) (rank x)) ≡ true) (λ y u. not_from_false _ (before_asym (rank x) (rank y) u)) xs p.0)
     (in_order_from_rises rank xs p.1)

@@ -1,5 +1,6 @@
 -- A list in order is known by what stands at each rank. Assumes nothing.
-use Rattle.std.proofs.Common.{◌≡◌, ℕ, suc, true, false, cond, not, List, [], ◌∷◌, Some, None, Option, sym, refl, ap, ◌∙◌, subst, ⊎_elim, arith}
+use Rattle.std.proofs.Common.{◌≡◌, ℕ, suc, true, false, cond, not, List, [], ◌∷◌, Some, None, sym, refl, ap, ◌∙◌, subst, ⊎_elim, arith}
+use Rattle.std.proofs.lemmas.Option.{none-some, same_Some}
 use Rattle.std.proofs.lemmas.Bool.{cases_Bool, cond-true, cond-false, not-true}
 use Rattle.std.proofs.ByRecursion.{All-weaker}
 use Rattle.std.specs.List.{AllByRecursion}
@@ -7,12 +8,6 @@ use Rattle.order.specs.declared.Meeting.TheVariants.{Stays}
 use Rattle.order.specs.Rank.{before, same, InOrder, Rises, at, tally}
 use Rattle.order.proofs.Ranks.{before_trans, same_refl, same_eq, before_not_same, before-upto, cases_rank}
 use Rattle.order.proofs.Rows.{pairwise_cons, at_none, same_flip}
-
-some-none : {X : Type 0} (x : X) (o : Option X) → o ≡ Some x → o ≡ None → ⊥
-some-none x o p q = let z : ◌≡◌ {A = ℕ} 0 1 = cc in omega arith
-
-some_same : {X : Type 0} (x y : X) (o : Option X) → o ≡ Some x → o ≡ Some y → x ≡ y
-some_same x y o p q = cc
 
 module _ {X : Type 0} (rank : X → List ℕ) where
   abbrev After : X → List X → Type 0
@@ -31,17 +26,17 @@ module _ {X : Type 0} (rank : X → List ℕ) where
   -- two rising lists with the same row at each rank are the same list
   pub unique_rising : (xs ys : List X) → Rises rank xs → Rises rank ys → ((z : X) → at rank (rank z) xs ≡ at rank (rank z) ys) → xs ≡ ys
   unique_rising [] [] h k e = refl
-  unique_rising [] (y ∷ ys) h k e = absurd (some-none y _ (here y ys) (sym (e y)))
-  unique_rising (x ∷ xs) [] h k e = absurd (some-none x _ (here x xs) (e x))
+  unique_rising [] (y ∷ ys) h k e = absurd (none-some y (e y ∙ here y ys))
+  unique_rising (x ∷ xs) [] h k e = absurd (none-some x (sym (e x) ∙ here x xs))
   unique_rising (x ∷ xs) (y ∷ ys) h k e =
       let p = pairwise_cons (λ a b. before (rank a) (rank b)) x xs h in
       let q = pairwise_cons (λ a b. before (rank a) (rank b)) y ys k in
       ⊎_elim
-      (λ b. absurd (some-none x _ (here x xs) (e x ∙ none-at x (y ∷ ys) (b, after_all x y ys b q.0))))
+      (λ b. absurd (none-some x (sym (e x ∙ none-at x (y ∷ ys) (b, after_all x y ys b q.0)) ∙ here x xs)))
       (⊎_elim
       (λ s.
       let level = same_eq (rank x) (rank y) s in
-      let first : x ≡ y = some_same x y _ (here x xs) (e x ∙ subst (λ r. at rank r (y ∷ ys) ≡ Some y) (sym level) (here y ys)) in
+      let first : x ≡ y = same_Some x y (sym (here x xs) ∙ e x ∙ subst (λ r. at rank r (y ∷ ys) ≡ Some y) (sym level) (here y ys)) in
       let rest : xs ≡ ys = unique_rising xs ys p.1 q.1 (λ z.
       ⊎_elim
       (λ t.
@@ -53,7 +48,7 @@ module _ {X : Type 0} (rank : X → List ℕ) where
       sym (cond-false _ _ _ t) ∙ e z ∙ cond-false _ _ _ u)
       (cases_Bool (same (rank x) (rank z)))) in
       cc)
-      (λ b. absurd (some-none y _ (here y ys) (sym (e y) ∙ none-at y (x ∷ xs) (b, after_all y x xs b p.0)))))
+      (λ b. absurd (none-some y (sym (none-at y (x ∷ xs) (b, after_all y x xs b p.0)) ∙ e y ∙ here y ys))))
       (cases_rank (rank x) (rank y))
 
   tally-none : (r : X) (xs : List X) → After r xs → tally rank (rank r) xs ≡ 0

@@ -1,6 +1,7 @@
 -- How bytes are written within quotes. Assumes nothing.
-use Rattle.std.specs.Prelude.{ℕ, ◌/◌, ◌%◌, cond, List, [], ◌∷◌, ◌++◌, ◌==◌, nat_lt}
+use Rattle.std.specs.Prelude.{ℕ, ◌/◌, ◌%◌, cond, List, [], ◌∷◌, ◌==◌, nat_lt}
 use Rattle.std.specs.Char.{digit_char}
+use Rattle.std.specs.List.{flat_map}
 
 abbrev pub hex_written : ℕ → List ℕ
 hex_written b = 92 ∷ 120 ∷ digit_char (b / 16) ∷ digit_char (b % 16) ∷ []
@@ -10,5 +11,4 @@ written b =
     cond (b == 34) (92 ∷ 34 ∷ []) (cond (b == 92) (92 ∷ 92 ∷ []) (cond (nat_lt b 32) (hex_written b) (cond (nat_lt b 127) (b ∷ []) (hex_written b))))
 
 abbrev pub escaped : List ℕ → List ℕ
-escaped [] = []
-escaped (b ∷ bs) = written b ++ escaped bs
+escaped bs = flat_map written bs

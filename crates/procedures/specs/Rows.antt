@@ -30,3 +30,7 @@ no_text = record { start = 0; length = 0 }
 
 abbrev pub no_procedure : Procedure
 no_procedure = record { offset = nowhere; length = 0; name = no_text; type_number = 0; item = 0; end = 0 }
+
+-- what a parent takes from a procedure
+abbrev pub parent_of : Procedure → Parent
+parent_of p = record { offset = p.offset; name = p.name; type_number = p.type_number }

@@ -10,7 +10,8 @@ pub struct Spot {
     pub offset: SectionOffset,
 }
 
-// An address that lies in a section and there in a contribution.
+// An address that lies in a section and there in a contribution. That it fits in 32 bits is a premise where it counts and no ghost field: the
+// definitions that make locations have numbers without a bound.
 #[derive(Clone, Copy)]
 pub struct Location {
     pub base: u32,

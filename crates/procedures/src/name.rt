@@ -5,6 +5,7 @@ ghost use Rattle.std.specs.Option.{option_map};
 
 use base::image::TextPart;
 
+// A name is one of four, none among them.
 #[derive(Clone, Copy)]
 pub enum NameRow {
     None,
@@ -15,6 +16,7 @@ pub enum NameRow {
     Id(u16, u32),
 }
 
+// Beside `NameRow`, and not one generic enum with it: that its cases borrow the text is a rule of the project.
 #[derive(Clone, Copy)]
 pub enum Name<'a> {
     None,
@@ -30,14 +32,11 @@ impl NameRow {
     {
         match self {
             NameRow::None => Name::None,
-            NameRow::Raw(part) => match part_of(text, *part) {
-                Some(bytes) => Name::Raw(bytes),
-                None => Name::None,
-            },
-            NameRow::Typed(part, module, number) => match part_of(text, *part) {
-                Some(bytes) => Name::Typed(bytes, *module, *number),
-                None => Name::None,
-            },
+            NameRow::Raw(part) => part_of(text, *part).map_or(Name::None, Name::Raw),
+            NameRow::Typed(part, module, number) => part_of(text, *part).map_or(
+                Name::None,
+                |bytes| Name::Typed(bytes, *module, *number),
+            ),
             NameRow::Id(module, inlinee) => Name::Id(*module, *inlinee),
         }
     }
@@ -47,9 +46,5 @@ pub fn part_of<'a>(text: &'a [u8], part: TextPart) -> Option<&'a [u8]>
     ensures { option_map (λ x. x.now) result ≡ bytes_of text.now part }
 {
     let start = part.start as usize;
-    let end = start + part.length as usize;
-    if end > text.len() {
-        return None;
-    }
-    Some(&text[start..end])
+    text.get(start..start + part.length as usize)
 }

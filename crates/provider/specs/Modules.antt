@@ -3,8 +3,7 @@ use Rattle.std.specs.Prelude.{◌≡◌, ℕ, ◌^◌, ◌<◌, ◌≤◌, List,
 use Rattle.order.specs.Rank.{Rises}
 use Rattle.base.specs.declared.image.SectionOffset.{SectionOffset}
 use Rattle.base.specs.declared.image.TextPart.{TextPart}
-use Rattle.base.specs.declared.image.Ending.{Ending}
-use Rattle.base.specs.declared.image.Ending.TheVariants.{Clean}
+use Rattle.base.specs.Lists.{Ending, clean}
 use Rattle.provider.specs.declared.symbols.ModuleState.{ModuleState}
 use Rattle.provider.specs.declared.symbols.ModuleState.TheVariants.{Absent, Broken, Present}
 use Rattle.provider.specs.declared.symbols.SymbolRecord.{SymbolRecord}
@@ -17,7 +16,7 @@ pub record Listed (X : Type 0) : Type 0 where
   pub ending : Ending
 
 abbrev pub none_listed : {X : Type 0} → Listed X
-none_listed = record { items = []; ending = Clean }
+none_listed = record { items = []; ending = clean }
 
 -- what a present module means; site rows are told by the index of the site's record and the offset walked from
 pub record Module : Type 0 where
@@ -31,8 +30,8 @@ pub record Module : Type 0 where
 abbrev pub nothing : Module
 nothing = record {
   symbols = [];
-  symbols_end = Clean;
-  extras = Clean;
+  symbols_end = clean;
+  extras = clean;
   site_rows = λ site start. none_listed;
   line_rows = λ start. none_listed;
   file = λ number. None;

@@ -1,7 +1,14 @@
 // What a module provider answers with.
-use base::image::{SectionOffset, TextPart};
+ghost use Rattle.order.specs.declared.Meeting.TheVariants.{Stays};
+ghost use Rattle.provider.specs.Modules.{index_rank};
+ghost use Rattle.provider.specs.Names.{symbol_within};
 
-#[derive(Clone, Copy)]
+use base::image::{SectionOffset, TextPart};
+use image::check::Part;
+use order::{Meeting, Row};
+use std::cmp::Ordering;
+
+#[derive(Clone, Copy, PartialEq, Eq)]
 pub enum ModuleState {
     Absent,
     Broken,
@@ -58,4 +65,31 @@ pub struct LineRow {
     pub offset: u32,
     pub file: u32,
     pub line: u32,
+}
+
+// Records stand by their indices.
+impl Row for SymbolRecord {
+    ghost rank = { index_rank };
+
+    ghost meets = { λ r s. Stays };
+
+    fn compare(&self, other: &SymbolRecord) -> Ordering {
+        self.index.cmp(&other.index)
+    }
+
+    fn meet(&self, _newer: &SymbolRecord) -> Meeting {
+        Meeting::Stays
+    }
+}
+
+// Only procedures and thunks have a name that could lie outside the text.
+impl Part for SymbolRecord {
+    ghost within = { λ long r. symbol_within long r.symbol };
+
+    fn is_within(&self, long: usize) -> bool {
+        match self.symbol {
+            Symbol::Procedure { name, .. } | Symbol::Thunk { name, .. } => name.is_within(long),
+            Symbol::SeparatedCode { .. } | Symbol::InlineSite { .. } | Symbol::Other => true,
+        }
+    }
 }

@@ -4,9 +4,7 @@ ghost use Rattle.rows.specs.Tables.{meaning_of};
 
 use crate::failure::Failure;
 use crate::options::Options;
-use crate::page::Page;
-use crate::print::write_context;
-use crate::refused::write_refusal;
+use crate::print::{write_context, write_quoted};
 use base::context::{Contribution, KnownStart};
 use base::refusal::Refusal;
 use context::build::build;
@@ -22,88 +20,62 @@ use resolver::answers::answer_all;
 use resolver::resolver::Resolver;
 use row_provider::RowProvider;
 use rows::tables::ImageRows;
-use std::alloc::Global;
+use std::alloc::{AllocError, Global};
+use std::fmt::Write;
 
 type Answer = Result<Option<Function>, Refusal>;
 
+// Why an image is refused, or its context and then the answers: first what the description asks, then what the command line does.
 pub fn write_image(
     heap: Global,
-    page: &mut Page,
+    out: &mut String,
     description: &Description,
     options: &Options,
 ) -> Result<(), Failure> {
     let mut starts = vec![in heap; KnownStart::empty(); description.start_rows]?;
     let mut contributions = vec![in heap; Contribution::empty(); description.contribution_rows]?;
-    let mut answers = vec![in heap; Ok(None); options.addresses.len()]?;
     let mut tables = Tables {
         starts: starts.as_mut_slice(),
         contributions: contributions.as_mut_slice(),
     };
-    write_opened(
-        page,
-        description,
-        options,
-        &mut tables,
-        answers.as_mut_slice(),
-    );
+    let mut context = Context::empty();
+    let provider = match open(description, &mut tables, &mut context) {
+        Ok(provider) => provider,
+        Err(refusal) => return Ok(write_refusal(out, &refusal)?),
+    };
+    if !options.only_answers {
+        write_context(out, description.text.as_slice(), &context)?;
+    }
+    let addresses = options.addresses.as_slice();
+    let mut answers = vec![in heap; Ok(None); addresses.len()]?;
+    let mut resolver = answer_all(provider, &context, addresses, answers.as_mut_slice());
+    for question in description.questions.iter() {
+        write_answer(out, &mut resolver, &context, *question)?;
+    }
+    for (address, answer) in addresses.iter().zip(answers.iter()) {
+        write_found(out, &resolver, *address, *answer)?;
+    }
+    for (first, second) in options.pairs.iter() {
+        let question = Question::Same(*first, *second);
+        write_answer(out, &mut resolver, &context, question)?;
+    }
     Ok(())
 }
 
-// A refused image is an answer too.
-fn write_opened(
-    page: &mut Page,
-    description: &Description,
-    options: &Options,
-    tables: &mut Tables<'_>,
-    answers: &mut [Answer],
-) {
+// The provider of an image, from which its context is built.
+fn open<'a, 't>(
+    description: &'a Description,
+    tables: &mut Tables<'t>,
+    context: &mut Context<'t>,
+) -> Result<Hiding<RowProvider<'a>>, Refusal> {
     let mut provider = RowProvider::empty();
-    match RowProvider::open(rows_of(description), modules_of(description), &mut provider) {
-        Ok(()) => write_hiding(page, description, options, provider, tables, answers),
-        Err(refusal) => write_refusal(page, &refusal),
-    }
-}
-
-fn write_hiding(
-    page: &mut Page,
-    description: &Description,
-    options: &Options,
-    provider: RowProvider<'_>,
-    tables: &mut Tables<'_>,
-    answers: &mut [Answer],
-) {
+    RowProvider::open(rows_of(description), modules_of(description), &mut provider)?;
     let mut layer = Hiding::over(provider);
-    match hide_all(&mut layer, description.hidden.as_slice()) {
-        Ok(()) => write_built(page, description, options, layer, tables, answers),
-        Err(refusal) => write_refusal(page, &refusal),
+    for module in description.hidden.iter() {
+        layer.hide(*module)?;
     }
-}
-
-fn write_built<P: ModuleProvider + Drop>(
-    page: &mut Page,
-    description: &Description,
-    options: &Options,
-    provider: P,
-    tables: &mut Tables<'_>,
-    answers: &mut [Answer],
-) {
-    let mut context = Context::empty();
-    match build(&provider, tables, &mut context) {
-        Ok(()) => {
-            if !options.only_answers {
-                write_context(page, description.text.as_slice(), &context);
-            }
-            write_answers(
-                page,
-                provider,
-                &context,
-                description.questions.as_slice(),
-                options,
-                answers,
-            );
-        }
-        Err(refusal) => write_refusal(page, &refusal),
-    }
+    build(&layer, tables, context)?;
+    Ok(layer)
 }
 
 fn rows_of(description: &Description) -> ImageRows<'_>
@@ -132,137 +104,75 @@ fn modules_of(description: &Description) -> ModuleRows<'_> {
     }
 }
 
-fn hide_all<P>(layer: &mut Hiding<P>, modules: &[u16]) -> Result<(), Refusal> {
-    for module in modules {
-        layer.hide(*module)?;
-    }
-    Ok(())
-}
-
-// Those that the description asks for come first.
-fn write_answers<P: ModuleProvider + Drop>(
-    page: &mut Page,
-    provider: P,
-    context: &Context<'_>,
-    questions: &[Question],
-    options: &Options,
-    answers: &mut [Answer],
-) {
-    let mut resolver = answer_all(provider, context, options.addresses.as_slice(), answers);
-    write_asked(page, &mut resolver, context, questions);
-    write_all_found(page, &resolver, options.addresses.as_slice(), answers);
-    write_pairs(page, &mut resolver, context, options.pairs.as_slice());
-}
-
-fn write_asked<P: ModuleProvider>(
-    page: &mut Page,
-    resolver: &mut Resolver<P>,
-    context: &Context<'_>,
-    questions: &[Question],
-) {
-    for question in questions {
-        write_answer(page, resolver, context, *question);
-    }
-}
-
-fn write_all_found<P: ModuleProvider>(
-    page: &mut Page,
-    resolver: &Resolver<P>,
-    addresses: &[u32],
-    answers: &[Answer],
-) {
-    for (address, answer) in addresses.iter().zip(answers.iter()) {
-        write_found(page, resolver, *address, *answer);
-    }
-}
-
-fn write_pairs<P: ModuleProvider>(
-    page: &mut Page,
-    resolver: &mut Resolver<P>,
-    context: &Context<'_>,
-    pairs: &[(u32, u32)],
-) {
-    for pair in pairs {
-        write_answer(page, resolver, context, Question::Same(pair.0, pair.1));
-    }
-}
-
 fn write_answer<P: ModuleProvider>(
-    page: &mut Page,
+    out: &mut String,
     resolver: &mut Resolver<P>,
     context: &Context<'_>,
     question: Question,
-) {
+) -> Result<(), AllocError> {
     match question {
         Question::Find(address) => {
             let answer = resolver.find_function(context, address);
-            write_found(page, resolver, address, answer);
+            write_found(out, resolver, address, answer)
         }
         Question::Same(first, second) => {
-            let answer = resolver.same_function(context, first, second);
-            write_same(page, first, second, answer);
+            write!(out, "same {first:#x} {second:#x} ")?;
+            write_same(out, resolver.same_function(context, first, second))
         }
     }
 }
 
 fn write_found<P: ModuleProvider>(
-    page: &mut Page,
+    out: &mut String,
     resolver: &Resolver<P>,
     address: u32,
     answer: Answer,
-) {
-    page.hex("", address);
+) -> Result<(), AllocError> {
+    write!(out, "{address:#x} ")?;
     match answer {
-        Ok(Some(function)) => write_function(page, function, resolver.name(function.name)),
-        Ok(None) => page.push(" none\n"),
-        Err(refusal) => {
-            page.push(" ");
-            write_refusal(page, &refusal);
-        }
+        Ok(Some(function)) => write_function(out, function, resolver.name(function.name)),
+        Ok(None) => out.push_str("none\n"),
+        Err(refusal) => write_refusal(out, &refusal),
     }
 }
 
 // An end that lies above the greatest address is none.
-fn write_function(page: &mut Page, function: Function, name: Name<'_>) {
-    page.hex(" function ", function.start_rva);
+fn write_function(out: &mut String, function: Function, name: Name<'_>) -> Result<(), AllocError> {
+    write!(out, "function {:#x} ", function.start_rva)?;
     match function.end_rva {
-        Some(end) => page.hex(" ", end),
-        None => page.push(" -"),
+        Some(end) => write!(out, "{end:#x} ")?,
+        None => out.push_str("- ")?,
     }
-    write_name(page, name);
-    page.push("\n");
+    write_name(out, name)?;
+    out.push_str("\n")
 }
 
-fn write_name(page: &mut Page, name: Name<'_>) {
+fn write_name(out: &mut String, name: Name<'_>) -> Result<(), AllocError> {
     match name {
-        Name::None => page.push(" unnamed"),
+        Name::None => out.push_str("unnamed"),
         Name::Raw(bytes) => {
-            page.escaped(" raw \"", bytes);
-            page.push("\"");
+            out.push_str("raw ")?;
+            write_quoted(out, bytes)
         }
         Name::Typed(bytes, module, number) => {
-            page.escaped(" typed \"", bytes);
-            page.number("\" module ", module as u64);
-            page.number(" type ", number as u64);
+            out.push_str("typed ")?;
+            write_quoted(out, bytes)?;
+            write!(out, " module {module} type {number}")
         }
-        Name::Id(module, inlinee) => {
-            page.number(" inlinee ", inlinee as u64);
-            page.number(" module ", module as u64);
-        }
+        Name::Id(module, inlinee) => write!(out, "inlinee {inlinee} module {module}"),
     }
 }
 
 // Where one of the two has no function, nothing is known.
-fn write_same(page: &mut Page, first: u32, second: u32, answer: Result<Option<bool>, Refusal>) {
-    page.hex("same ", first);
-    page.hex(" ", second);
+fn write_same(out: &mut String, answer: Result<Option<bool>, Refusal>) -> Result<(), AllocError> {
     match answer {
-        Ok(Some(true)) => page.push(" yes\n"),
-        Ok(Some(false)) => page.push(" no\n"),
-        Ok(None) => page.push(" unknown\n"),
-        Err(refusal) => {
-            page.push(" ");
-            write_refusal(page, &refusal);
-        }
+        Ok(Some(true)) => out.push_str("yes\n"),
+        Ok(Some(false)) => out.push_str("no\n"),
+        Ok(None) => out.push_str("unknown\n"),
+        Err(refusal) => write_refusal(out, &refusal),
     }
+}
+
+fn write_refusal(out: &mut String, refusal: &Refusal) -> Result<(), AllocError> {
+    writeln!(out, "refused {}: {refusal}", refusal.number())
 }

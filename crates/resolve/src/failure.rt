@@ -1,6 +1,7 @@
-// Why nothing is printed: a message, or want of memory.
+// Why nothing is printed: a message, or want of memory. Not `anyhow`, whose error keeps 120 bytes: a path may be longer.
 use std::alloc::{AllocError, AllocFailed, Global};
 use std::fmt;
+use words::number::NotNumber;
 
 #[derive(Drop)]
 pub enum Failure {
@@ -31,6 +32,15 @@ impl<T: Drop> From<AllocFailed<T>> for Failure {
     }
 }
 
+impl From<NotNumber> for Flaw {
+    fn from(e: NotNumber) -> Flaw {
+        match e {
+            NotNumber::NotDigits => Flaw::NotANumber,
+            NotNumber::TooLarge => Flaw::NumberTooLarge,
+        }
+    }
+}
+
 impl fmt::Display for Failure {
     fn fmt<W: fmt::Write>(&self, f: &mut fmt::Formatter<W>) -> fmt::Result {
         match self {
@@ -53,26 +63,11 @@ impl fmt::Display for Flaw {
     }
 }
 
-// What is wrong with a word of the command line.
-pub fn wrong_word(heap: Global, word: &str, flaw: Flaw) -> Failure {
-    match format!(in heap; "resolve: {word}: {flaw}") {
-        Ok(text) => Failure::Message(text),
-        Err(_) => Failure::NoMemory,
-    }
-}
-
-// What is wrong with a file, or with the program itself.
-pub fn wrong<E: fmt::Display + Drop>(heap: Global, name: &str, error: E) -> Failure {
-    match format!(in heap; "{name}: {error}") {
-        Ok(text) => Failure::Message(text),
-        Err(_) => Failure::NoMemory,
-    }
-}
-
-// What is wrong with a line of a file.
-pub fn wrong_line(heap: Global, path: &str, line: u64, flaw: Flaw) -> Failure {
-    match format!(in heap; "{path}: line {line}: {flaw}") {
-        Ok(text) => Failure::Message(text),
-        Err(_) => Failure::NoMemory,
-    }
+// What is wrong, after where: a file, a line of it, a word, or the program itself.
+pub fn wrong<P: fmt::Display + Drop, E: fmt::Display + Drop>(
+    heap: Global,
+    place: P,
+    error: E,
+) -> Failure {
+    format!(in heap; "{place}: {error}").map_or(Failure::NoMemory, Failure::Message)
 }

@@ -1,37 +1,36 @@
 // Files, and standard input for the path `-`, which can be read once.
 use crate::failure::{Failure, Flaw, wrong};
-use std::io::Read;
+use std::io::{Read, Stdin};
 use std::{fs, io};
 
+// Standard input is there until it is read.
 #[derive(Drop)]
 pub struct Input {
-    is_spent: bool,
+    stdin: Option<Stdin>,
 }
 
 impl Input {
-    pub fn new() -> Input {
-        Input { is_spent: false }
+    pub fn new(rt: &HostRuntime) -> Input {
+        Input {
+            stdin: Some(rt.stdin()),
+        }
     }
 
     pub fn read(&mut self, rt: &HostRuntime, path: &str) -> Result<Vec<u8>, Failure> {
         let heap = rt.alloc();
-        if path == "-" && self.is_spent {
+        if path != "-" {
+            return fs::read(rt, path).map_err(|error| wrong(heap, path, error));
+        }
+        let Some(stdin) = self.stdin.take() else {
             return Err(wrong(heap, shown(path), Flaw::ReadTwice));
-        }
-        self.is_spent = self.is_spent || path == "-";
-        match read_bytes(rt, path) {
-            Ok(bytes) => Ok(bytes),
-            Err(error) => Err(wrong(heap, shown(path), error)),
-        }
+        };
+        read_all(rt, stdin).map_err(|error| wrong(heap, shown(path), error))
     }
 }
 
-fn read_bytes(rt: &HostRuntime, path: &str) -> io::Result<Vec<u8>> {
-    if path != "-" {
-        return fs::read(rt, path);
-    }
+fn read_all(rt: &HostRuntime, mut stdin: Stdin) -> io::Result<Vec<u8>> {
     let mut bytes = Vec::new(rt.alloc());
-    rt.stdin().read_to_end(&mut bytes)?;
+    stdin.read_to_end(&mut bytes)?;
     Ok(bytes)
 }
 

@@ -1,8 +1,14 @@
 // The command line.
-use crate::addresses::{address, read_addresses};
-use crate::failure::{Failure, Flaw, wrong, wrong_word};
+ghost use Rattle.std.specs.Prelude.{◌≤◌};
+ghost use Rattle.std.specs.Vec.Iter.{into_iter_len};
+
+use crate::addresses::read_addresses;
+use crate::failure::{Failure, Flaw, wrong};
 use crate::input::Input;
+use std::alloc::Global;
 use std::env;
+use std::env::Args;
+use words::number::number;
 
 #[derive(Drop)]
 pub struct Options {
@@ -13,45 +19,7 @@ pub struct Options {
     pub only_answers: bool,
 }
 
-// What the next word of the command line is.
-#[derive(Clone, Copy)]
-enum Next {
-    Word,
-    Address,
-    File,
-    First,
-    Second(u32),
-}
-
-// What a word is that belongs to no option before it.
-#[derive(Clone, Copy)]
-enum Choice {
-    Wants(Next),
-    Answers,
-    Unknown,
-    Path,
-}
-
-static CHOICES: [(&'static str, Choice); 4] = [
-    ("--address", Choice::Wants(Next::Address)),
-    ("--addresses", Choice::Wants(Next::File)),
-    ("--same", Choice::Wants(Next::First)),
-    ("--answers", Choice::Answers),
-];
-
-fn choice_of(word: &str) -> Choice {
-    for (name, choice) in CHOICES.iter() {
-        if word == *name {
-            return *choice;
-        }
-    }
-    if word.starts_with("--") {
-        Choice::Unknown
-    } else {
-        Choice::Path
-    }
-}
-
+// Where no path is given, standard input is read. The runtime is no part of the input: it gives the heap and the arguments too.
 pub fn read_options(rt: &HostRuntime, input: &mut Input) -> Result<Options, Failure> {
     let heap = rt.alloc();
     let mut options = Options {
@@ -60,85 +28,69 @@ pub fn read_options(rt: &HostRuntime, input: &mut Input) -> Result<Options, Fail
         pairs: Vec::new(heap),
         only_answers: false,
     };
-    let mut args = match env::args(rt) {
-        Ok(args) => args,
-        Err(error) => return Err(wrong(heap, "resolve", error)),
-    };
+    let mut args = env::args(rt).map_err(|error| wrong(heap, "resolve", error))?;
     let _program = args.next();
-    let mut next = Next::Word;
-    for word in args {
-        next = options.take(rt, input, next, word)?;
+    // no `for`: an option takes words from the same iterator
+    while let Some(word) = args.next() {
+        options.take(rt, input, word, &mut args)?;
     }
-    match next {
-        Next::Word => Ok(options),
-        _ => Err(wrong_word(heap, option_name(next), Flaw::NothingFollows)),
+    if options.paths.is_empty() {
+        options.paths.push(String::from_str(heap, "-")?)?;
     }
-}
-
-// The option that wants this word.
-fn option_name(next: Next) -> &'static str {
-    match next {
-        Next::Word => "",
-        Next::Address => "--address",
-        Next::File => "--addresses",
-        Next::First | Next::Second(_) => "--same",
-    }
+    Ok(options)
 }
 
 impl Options {
+    // Takes a word, and what has to follow it.
     fn take(
         &mut self,
         rt: &HostRuntime,
         input: &mut Input,
-        next: Next,
         word: String,
-    ) -> Result<Next, Failure> {
-        match next {
-            Next::Word => self.take_word(rt, word),
-            Next::File => self.take_file(rt, input, word.as_str()),
-            _ => self.take_address(rt, next, word.as_str()),
-        }
-    }
-
-    fn take_word(&mut self, rt: &HostRuntime, word: String) -> Result<Next, Failure> {
-        match choice_of(word.as_str()) {
-            Choice::Wants(next) => Ok(next),
-            Choice::Answers => {
-                self.only_answers = true;
-                Ok(Next::Word)
+        rest: &mut Args,
+    ) -> Result<(), Failure>
+        ensures { into_iter_len rest.new ≤ into_iter_len rest.old }
+    {
+        let heap = rt.alloc();
+        match word.as_str() {
+            option @ "--address" => {
+                let address = address_after(heap, option, rest)?;
+                self.addresses.push(address)?;
             }
-            Choice::Unknown => Err(wrong_word(rt.alloc(), word.as_str(), Flaw::UnknownOption)),
-            Choice::Path => {
-                self.paths.push(word)?;
-                Ok(Next::Word)
+            option @ "--addresses" => {
+                let path = word_after(heap, option, rest)?;
+                let bytes = input.read(rt, path.as_str())?;
+                read_addresses(heap, &mut self.addresses, path.as_str(), bytes.as_slice())?;
             }
+            option @ "--same" => {
+                let first = address_after(heap, option, rest)?;
+                let second = address_after(heap, option, rest)?;
+                self.pairs.push((first, second))?;
+            }
+            "--answers" => self.only_answers = true,
+            option if option.starts_with("--") => {
+                return Err(wrong_word(heap, option, Flaw::UnknownOption));
+            }
+            _ => self.paths.push(word)?,
         }
+        Ok(())
     }
+}
 
-    fn take_file(
-        &mut self,
-        rt: &HostRuntime,
-        input: &mut Input,
-        path: &str,
-    ) -> Result<Next, Failure> {
-        let bytes = input.read(rt, path)?;
-        read_addresses(rt.alloc(), &mut self.addresses, path, bytes.as_slice())?;
-        Ok(Next::Word)
-    }
+fn word_after(heap: Global, option: &str, rest: &mut Args) -> Result<String, Failure>
+    ensures { into_iter_len rest.new ≤ into_iter_len rest.old }
+{
+    rest.next()
+        .ok_or_else(|| wrong_word(heap, option, Flaw::NothingFollows))
+}
 
-    fn take_address(&mut self, rt: &HostRuntime, next: Next, word: &str) -> Result<Next, Failure> {
-        match address(word.as_bytes()) {
-            Ok(address) => self.ask(next, address),
-            Err(flaw) => Err(wrong_word(rt.alloc(), word, flaw)),
-        }
-    }
+fn address_after(heap: Global, option: &str, rest: &mut Args) -> Result<u32, Failure>
+    ensures { into_iter_len rest.new ≤ into_iter_len rest.old }
+{
+    let word = word_after(heap, option, rest)?;
+    number(word.as_bytes()).map_err(|error| wrong_word(heap, word.as_str(), Flaw::from(error)))
+}
 
-    fn ask(&mut self, next: Next, address: u32) -> Result<Next, Failure> {
-        match next {
-            Next::First => return Ok(Next::Second(address)),
-            Next::Second(first) => self.pairs.push((first, address))?,
-            _ => self.addresses.push(address)?,
-        }
-        Ok(Next::Word)
-    }
+fn wrong_word(heap: Global, word: &str, flaw: Flaw) -> Failure {
+    wrong(heap, format_args!("resolve: {word}"), flaw)
 }

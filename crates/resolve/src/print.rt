@@ -1,57 +1,58 @@
 // What a context holds, line by line.
-use crate::page::Page;
 use base::context::{Contribution, KnownStart};
-use base::image::{Section, TextPart};
+use base::image::{Section, SectionOffset};
 use context::tables::Context;
+use printing::push_escaped;
 use procedures::name::part_of;
+use std::alloc::AllocError;
+use std::fmt::Write;
 
-pub fn write_context(page: &mut Page, text: &[u8], context: &Context) {
-    let sections = &context.sections.rows[0..context.sections.count];
-    for (index, section) in sections.iter().enumerate() {
-        write_section(page, index as u64 + 1, *section);
+pub fn write_context(out: &mut String, text: &[u8], context: &Context) -> Result<(), AllocError> {
+    for (number, section) in (1..).zip(context.sections.used()) {
+        write_section(out, number, *section)?;
     }
-    for contribution in &context.contributions[0..context.contribution_count] {
-        write_contribution(page, *contribution);
+    for contribution in context.contributions.used().rows {
+        write_contribution(out, *contribution)?;
     }
-    for start in &context.starts[0..context.start_count] {
-        write_start(page, text, *start);
+    for start in context.starts.used().rows {
+        write_start(out, text, *start)?;
     }
-    page.number("functions ", context.function_count() as u64);
-    page.push("\n");
+    writeln!(out, "functions {}", context.function_count())
 }
 
-fn write_section(page: &mut Page, number: u64, section: Section) {
-    page.number("section ", number);
-    page.hex(" ", section.address);
-    page.hex(" ", section.size);
-    page.push(if section.executable {
-        " executable\n"
-    } else {
-        " data\n"
-    });
+fn write_section(out: &mut String, number: u64, section: Section) -> Result<(), AllocError> {
+    let Section {
+        address,
+        size,
+        executable,
+    } = section;
+    let kind = if executable { "executable" } else { "data" };
+    writeln!(out, "section {number} {address:#x} {size:#x} {kind}")
 }
 
-fn write_contribution(page: &mut Page, contribution: Contribution) {
-    page.number("contribution ", contribution.section as u64);
-    page.hex(":", contribution.start);
-    page.hex(" ", contribution.end);
-    page.number(" ", contribution.module as u64);
-    page.push("\n");
-}
-
-fn write_start(page: &mut Page, text: &[u8], start: KnownStart) {
-    page.number("start ", start.offset.section as u64);
-    page.hex(":", start.offset.offset);
-    if let Some(name) = start.name {
-        write_name(page, text, name);
-    }
-    page.push("\n");
+fn write_contribution(out: &mut String, contribution: Contribution) -> Result<(), AllocError> {
+    let Contribution {
+        section,
+        start,
+        end,
+        module,
+    } = contribution;
+    writeln!(out, "contribution {section}:{start:#x} {end:#x} {module}")
 }
 
 // A name lies within the text of the image that a context was built from.
-fn write_name(page: &mut Page, text: &[u8], name: TextPart) {
-    if let Some(bytes) = part_of(text, name) {
-        page.escaped(" \"", bytes);
-        page.push("\"");
+fn write_start(out: &mut String, text: &[u8], start: KnownStart) -> Result<(), AllocError> {
+    let SectionOffset { section, offset } = start.offset;
+    write!(out, "start {section}:{offset:#x}")?;
+    if let Some(bytes) = start.name.and_then(|name| part_of(text, name)) {
+        out.push_str(" ")?;
+        write_quoted(out, bytes)?;
     }
+    out.push_str("\n")
+}
+
+pub fn write_quoted(out: &mut String, bytes: &[u8]) -> Result<(), AllocError> {
+    out.push_str("\"")?;
+    push_escaped(out, bytes)?;
+    out.push_str("\"")
 }

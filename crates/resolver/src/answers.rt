@@ -1,5 +1,5 @@
 // A succession of addresses.
-ghost use Rattle.std.specs.Prelude.{◌≡◌, min, List, ◌++◌, map, length, take, drop};
+ghost use Rattle.std.specs.Prelude.{◌≡◌, List, ◌++◌, map, length, take, drop};
 ghost use Rattle.context.specs.Context.{meaning};
 ghost use Rattle.lookup.specs.Reading.{empty_shelf};
 ghost use Rattle.lookup.specs.Finding.{find_function};
@@ -27,6 +27,7 @@ pub fn answer_all<P: ModuleProvider>(
     ensures firsts { (ps : List Row) → FirstsInOrder ps }
 {
     let mut resolver = Resolver::open(provider);
+    // By index: what is written through a zip of `iter_mut` is not known afterwards.
     let count = addresses.len().min(answers.len());
     for k in 0..count {
         answers[k] = resolver.find_function(context, addresses[k]);

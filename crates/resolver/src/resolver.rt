@@ -2,7 +2,7 @@
 ghost use Rattle.std.specs.Prelude.{◌≡◌};
 ghost use Rattle.procedures.specs.Names.{spelled, name_of};
 ghost use Rattle.lookup.specs.Reading.{empty_shelf};
-ghost use Rattle.lookup.specs.Comparing.{same_extent, same_end};
+ghost use Rattle.lookup.specs.Comparing.{same_extent};
 ghost use Rattle.lookup.specs.Laws.{Extents, StartsLast};
 ghost use Rattle.base.specs.declared.image.SectionOffset.{SectionOffset as Offset};
 ghost use Rattle.context.specs.Context.{meaning};
@@ -54,7 +54,7 @@ impl<P: ModuleProvider> Resolver<P> {
             self.provider.text(),
             context,
             &location,
-            self.shelf.procedures(),
+            self.shelf.procedures().rows,
         ))
     }
 
@@ -87,20 +87,6 @@ impl<P: ModuleProvider> Resolver<P> {
 fn same_extent(first: Option<Function>, second: Option<Function>) -> Option<bool>
     ensures { result ≡ same_extent first second }
 {
-    match (first, second) {
-        (Some(first), Some(second)) => Some(
-            first.start_rva == second.start_rva && same_end(first.end_rva, second.end_rva),
-        ),
-        _ => None,
-    }
-}
-
-fn same_end(first: Option<u32>, second: Option<u32>) -> bool
-    ensures { result ≡ same_end first second }
-{
-    match (first, second) {
-        (Some(first), Some(second)) => first == second,
-        (None, None) => true,
-        _ => false,
-    }
+    let (first, second) = first.zip(second)?;
+    Some(first.start_rva == second.start_rva && first.end_rva == second.end_rva)
 }

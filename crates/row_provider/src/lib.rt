@@ -1,9 +1,11 @@
 // A module provider over the caller's tables.
 #![tactic(auto)]
 
-ghost use Rattle.std.specs.Prelude.{◌≡◌, false, is_some, Some, None, Ok, Err};
+ghost use Rattle.std.specs.Prelude.{◌≡◌, None, OnOk, OnErr};
+ghost use Rattle.std.specs.Result.{result_err};
+ghost use Rattle.order.specs.Rank.{InOrder, at};
 ghost use Rattle.rows.specs.Tables.{meaning_of, nothing};
-ghost use Rattle.modules.specs.Meaning.{AnswersFor, modules_of, no_module};
+ghost use Rattle.modules.specs.Meaning.{AnswersFor, modules_of, no_module, part};
 ghost use Rattle.modules.specs.BadRows.{bad_row};
 ghost use Rattle.modules.proofs.Good.{means_regular};
 ghost use Rattle.row_provider.specs.Opening.{refused, no_modules};
@@ -14,21 +16,19 @@ use base::image::{
 use base::refusal::Refusal;
 use image::ImageSource;
 use modules::tables::{FileRow, LineList, ModuleRow, ModuleRows, RowRange, SiteList};
+use order::Row;
 use provider::ModuleProvider;
 use provider::symbols::{LineRow, ModuleState, SiteRow, SymbolRecord};
 use rows::source::{RowSource, entry_at, row_at};
 use rows::tables::ImageRows;
-use table::find;
-
-// Rows that are not asked for.
-const NO_ROWS: RowRange = RowRange { first: 0, count: 0 };
+use table::Sorted;
 
 // Tables of which no row is bad.
 #[derive(Clone, Copy)]
 pub struct RowProvider<'a> {
     image: RowSource<'a>,
     modules: ModuleRows<'a>,
-    ghost good: { is_some (bad_row image.rows.text.now modules) ≡ false },
+    ghost good: { bad_row image.rows.text.now modules ≡ None },
 }
 
 impl<'a> RowProvider<'a> {
@@ -39,33 +39,24 @@ impl<'a> RowProvider<'a> {
     {
         RowProvider {
             image: RowSource::empty(),
-            modules: ModuleRows {
-                modules: &[],
-                symbols: &[],
-                site_lists: &[],
-                site_rows: &[],
-                line_lists: &[],
-                line_rows: &[],
-                files: &[],
-            },
+            modules: ModuleRows::default(),
         }
     }
 
-    // Puts the tables into the place, or leaves it as it was where one of their rows is bad.
+    // Puts the tables into the place, a lent one as a rule of the project wants it, or leaves it as it was where one of their rows is bad.
     pub fn open(
         image: ImageRows<'a>,
         modules: ModuleRows<'a>,
         place: &mut RowProvider<'a>,
     ) -> Result<(), Refusal>
-        ensures answer { elim result [ Ok v ↦ refused image.entry modules.entry ≡ None | Err e ↦ refused image.entry modules.entry ≡ Some e ] }
-        ensures image { elim result [ Ok v ↦ meaning_of place.new.image.rows ≡ meaning_of image.entry | Err e ↦ place.new ≡ place.old ] }
-        ensures modules { elim result [ Ok v ↦ modules_of place.new.modules ≡ modules_of modules.entry | Err e ↦ place.new ≡ place.old ] }
+        ensures answer { result_err result ≡ refused image.entry modules.entry }
+        ensures granted_image { OnOk result (meaning_of place.new.image.rows ≡ meaning_of image.entry) }
+        ensures granted_modules { OnOk result (modules_of place.new.modules ≡ modules_of modules.entry) }
+        ensures refused { OnErr result (place.new ≡ place.old) }
     {
         let mut source = RowSource::empty();
         RowSource::open(image, &mut source)?;
-        if let Some(refusal) = modules.bad_row(image.text) {
-            return Err(refusal);
-        }
+        modules.check(image.text)?;
         *place = RowProvider {
             image: source,
             modules,
@@ -77,7 +68,7 @@ impl<'a> RowProvider<'a> {
 impl<'a> ImageSource for RowProvider<'a> {
     ghost image = { λ p. meaning_of p.image.rows };
 
-    ghost lawful = { λ p. record { few_sections = p.image.few_sections; few_symbols = p.image.few_symbols; few_contributions = p.image.few_contributions; names = p.image.names } };
+    ghost lawful = { λ p. p.image.lawful };
 
     fn text(&self) -> &[u8] {
         self.image.text()
@@ -106,10 +97,7 @@ impl<'a> ModuleProvider for RowProvider<'a> {
     }
 
     fn module_state(&self, number: u16) -> ModuleState {
-        match row_at(self.modules.modules, number as u32) {
-            Some(row) => row.state,
-            None => ModuleState::Absent,
-        }
+        row_at(self.modules.modules, u32::from(number)).map_or(ModuleState::Absent, |row| row.state)
     }
 
     fn symbol(&self, number: u16, item: u32) -> Entry<SymbolRecord> {
@@ -125,70 +113,71 @@ impl<'a> ModuleProvider for RowProvider<'a> {
         let key = SiteList {
             site,
             start,
-            rows: NO_ROWS,
-            ending: Ending::Clean,
+            rows: RowRange::default(),
+            ending: Ok(()),
         };
-        let lists = self.row(number).site_lists.of(self.modules.site_lists);
-        match find(lists, &key) {
-            Some(list) => entry_at(list.rows.of(self.modules.site_rows), list.ending, item),
-            None => Entry::End(Ending::Clean),
-        }
+        find_in(self.modules.site_lists, self.row(number).site_lists, &key).map_or(
+            Ok(None),
+            |list| entry_at(list.rows.of(self.modules.site_rows), list.ending, item),
+        )
     }
 
+    // Twin of `site_row`: a trait over the two kinds of lists would be longer than the four lines that they share.
     fn line_row(&self, number: u16, start: SectionOffset, item: u32) -> Entry<LineRow> {
         let key = LineList {
             start,
-            rows: NO_ROWS,
-            ending: Ending::Clean,
+            rows: RowRange::default(),
+            ending: Ok(()),
         };
-        let lists = self.row(number).line_lists.of(self.modules.line_lists);
-        match find(lists, &key) {
-            Some(list) => entry_at(list.rows.of(self.modules.line_rows), list.ending, item),
-            None => Entry::End(Ending::Clean),
-        }
+        find_in(self.modules.line_lists, self.row(number).line_lists, &key).map_or(
+            Ok(None),
+            |list| entry_at(list.rows.of(self.modules.line_rows), list.ending, item),
+        )
     }
 
     fn file_name(&self, number: u16, file: u32) -> Option<TextPart> {
         let key = FileRow {
             number: file,
-            name: TextPart {
-                start: 0,
-                length: 0,
-            },
+            name: TextPart::default(),
         };
-        let files = self.row(number).files.of(self.modules.files);
-        match find(files, &key) {
-            Some(file) => Some(file.name),
-            None => None,
-        }
+        find_in(self.modules.files, self.row(number).files, &key).map(|row| row.name)
     }
 }
 
 impl RowProvider<'_> {
-    // The row that answers for a module; one that is not present has nothing.
+    // The row that answers for a module. One that is not present has nothing, so that no question has to ask for the state.
     fn row(&self, number: u16) -> ModuleRow
         ensures { AnswersFor self.now.modules number result }
     {
-        let Some(row) = row_at(self.modules.modules, number as u32) else {
-            return no_module();
-        };
-        match row.state {
-            ModuleState::Present => row,
+        match row_at(self.modules.modules, u32::from(number)) {
+            Some(row) if row.state == ModuleState::Present => row,
             _ => no_module(),
         }
     }
 }
 
+// Not `Default`, as an ending has none.
 fn no_module() -> ModuleRow
     ensures { result ≡ no_module }
 {
     ModuleRow {
         state: ModuleState::Absent,
-        symbols: NO_ROWS,
-        symbols_end: Ending::Clean,
-        extras: Ending::Clean,
-        site_lists: NO_ROWS,
-        line_lists: NO_ROWS,
-        files: NO_ROWS,
+        symbols: RowRange::default(),
+        symbols_end: Ok(()),
+        extras: Ok(()),
+        site_lists: RowRange::default(),
+        line_lists: RowRange::default(),
+        files: RowRange::default(),
     }
+}
+
+// The row of the key's rank in a part of a table.
+fn find_in<R: Row + Copy>(rows: &[R], range: RowRange, key: &R) -> Option<R>
+    requires { InOrder R.Row.rank (part rows.now range) }
+    ensures { result ≡ at R.Row.rank (R.Row.rank key.now) (part rows.now range) }
+{
+    Sorted {
+        rows: range.of(rows),
+    }
+    .find(key)
 }

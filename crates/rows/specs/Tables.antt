@@ -1,13 +1,11 @@
 -- What the caller's tables mean, and which of their rows is refused. Assumes nothing.
-use Rattle.std.specs.Prelude.{ℕ, ◌+◌, Bool, cond, List, [], ◌∷◌, length, Some, None, Option, nat_le, nat_lt}
-use Rattle.base.specs.declared.image.TextPart.{TextPart}
-use Rattle.base.specs.declared.image.PublicSymbol.{PublicSymbol}
-use Rattle.base.specs.declared.image.Ending.TheVariants.{Clean}
+use Rattle.std.specs.Prelude.{ℕ, [], length, Option}
+use Rattle.std.specs.Option.{option_or}
+use Rattle.base.specs.Lists.{clean}
 use Rattle.base.specs.declared.refusal.Refusal.{Refusal}
-use Rattle.base.specs.declared.refusal.Refusal.TheVariants.{BadRow}
-use Rattle.base.specs.declared.refusal.RowTable.{RowTable}
 use Rattle.base.specs.declared.refusal.RowTable.TheVariants.{Sections, PublicSymbolRows, ContributionRows}
 use Rattle.image.specs.Image.{Image}
+use Rattle.image.specs.Checks.{name_within, crowded, outside}
 use Rattle.rows.specs.declared.tables.ImageRows.{ImageRows}
 
 -- the tables, by what they hold
@@ -26,33 +24,19 @@ nothing = record {
   text = [];
   sections = [];
   symbols = [];
-  symbols_end = Clean;
+  symbols_end = clean;
   contributions = [];
-  contributions_end = Clean;
+  contributions_end = clean;
 }
 
--- the most rows that a table may have, and so the number of the first row too many
+-- the most rows that a table may have
 abbrev most : ℕ
 most = 4294967295
-
-abbrev pub crowded : RowTable → Refusal
-crowded table = BadRow table most
-
-abbrev many : {X : Type 0} → List X → Bool
-many rows = nat_lt most (length rows)
-
-abbrev pub part_of : List ℕ → TextPart → Bool
-part_of text p = nat_le (p.start + p.length) (length text)
-
--- the first symbol whose name is not a part of the text; they are counted from k
-abbrev pub bad_name : List ℕ → ℕ → List PublicSymbol → Option Refusal
-bad_name text k [] = None
-bad_name text k (s ∷ ss) = cond (part_of text s.name) (bad_name text (k + 1) ss) (Some (BadRow PublicSymbolRows k))
 
 -- the first of these that holds decides
 abbrev pub bad_row : Image → Option Refusal
 bad_row i =
-    cond (many i.sections) (Some (crowded Sections))
-    (cond (many i.symbols) (Some (crowded PublicSymbolRows))
-    (cond (many i.contributions) (Some (crowded ContributionRows))
-    (bad_name i.text 0 i.symbols)))
+    option_or (crowded Sections most i.sections)
+    (option_or (crowded PublicSymbolRows most i.symbols)
+    (option_or (crowded ContributionRows most i.contributions)
+    (outside (λ long s. name_within long s.name) PublicSymbolRows (length i.text) 0 i.symbols)))

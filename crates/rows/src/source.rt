@@ -1,8 +1,8 @@
 // The row source: the caller's tables, opened.
-ghost use Rattle.std.specs.Prelude.{◌≡◌, ℕ, ◌^◌, ◌<◌, length, Some, None, Ok, Err, slice_index_or};
+ghost use Rattle.std.specs.Prelude.{◌≡◌, OnOk, OnErr};
 ghost use Rattle.std.specs.List.{slice_get};
-ghost use Rattle.image.specs.Image.{PartOf, entry};
-ghost use Rattle.base.specs.declared.image.PublicSymbol.{PublicSymbol};
+ghost use Rattle.std.specs.Result.{result_err};
+ghost use Rattle.image.specs.Image.{Lawful, entry};
 ghost use Rattle.rows.specs.Tables.{meaning_of, bad_row, nothing};
 
 use crate::tables::ImageRows;
@@ -14,10 +14,7 @@ use image::ImageSource;
 #[derive(Clone, Copy)]
 pub struct RowSource<'a> {
     rows: ImageRows<'a>,
-    ghost few_sections: { length rows.sections.now < 2 ^ 32 },
-    ghost few_symbols: { length rows.symbols.now < 2 ^ 32 },
-    ghost few_contributions: { length rows.contributions.now < 2 ^ 32 },
-    ghost names: { (k : ℕ) (d : PublicSymbol) → k < length rows.symbols.now → PartOf rows.text.now (slice_index_or rows.symbols.now k d).name },
+    ghost lawful: { Lawful (meaning_of rows) },
 }
 
 impl<'a> RowSource<'a> {
@@ -30,37 +27,29 @@ impl<'a> RowSource<'a> {
                 text: &[],
                 sections: &[],
                 symbols: &[],
-                symbols_end: Ending::Clean,
+                symbols_end: Ok(()),
                 contributions: &[],
-                contributions_end: Ending::Clean,
+                contributions_end: Ok(()),
             },
         }
     }
 
-    // Puts the tables into the place, or leaves it as it was where one of their rows is bad.
+    // Puts the tables into the place, a lent one as a rule of the project wants it, or leaves it as it was where one of their rows is bad.
     pub fn open(rows: ImageRows<'a>, place: &mut RowSource<'a>) -> Result<(), Refusal>
-        ensures answer { elim result [ Ok v ↦ bad_row (meaning_of rows.entry) ≡ None | Err e ↦ bad_row (meaning_of rows.entry) ≡ Some e ] }
-        ensures holds { elim result [ Ok v ↦ meaning_of place.new.rows ≡ meaning_of rows.entry | Err e ↦ place.new ≡ place.old ] }
+        ensures answer { result_err result ≡ bad_row (meaning_of rows.entry) }
+        ensures granted { OnOk result (meaning_of place.new.rows ≡ meaning_of rows.entry) }
+        ensures refused { OnErr result (place.new ≡ place.old) }
     {
-        if let Some(refusal) = rows.bad_row() {
-            return Err(refusal);
-        }
-        *place = RowSource::new(rows);
+        rows.check()?;
+        *place = RowSource { rows };
         Ok(())
-    }
-
-    fn new(rows: ImageRows<'a>) -> RowSource<'a>
-        requires { bad_row (meaning_of rows) ≡ None }
-        ensures { meaning_of result.rows ≡ meaning_of rows.entry }
-    {
-        RowSource { rows }
     }
 }
 
 impl<'a> ImageSource for RowSource<'a> {
     ghost image = { λ s. meaning_of s.rows };
 
-    ghost lawful = { λ s. record { few_sections = s.few_sections; few_symbols = s.few_symbols; few_contributions = s.few_contributions; names = s.names } };
+    ghost lawful = { λ s. s.lawful };
 
     fn text(&self) -> &[u8] {
         self.rows.text
@@ -91,7 +80,7 @@ pub fn entry_at<T: Copy>(rows: &[T], end: Ending, item: u32) -> Entry<T>
     ensures { result ≡ entry rows.now end item }
 {
     match row_at(rows, item) {
-        Some(row) => Entry::Item(row),
-        None => Entry::End(end),
+        Some(row) => Ok(Some(row)),
+        None => end.map(|()| None),
     }
 }

@@ -1,7 +1,7 @@
 // The sections that a context keeps: what is asked of them, and the first step of building, which reads them.
 #![tactic(auto)]
 
-ghost use Rattle.std.specs.Prelude.{◌≡◌, ◌+◌, ◌||◌, [], IfOk, nat_le, nat_lt};
+ghost use Rattle.std.specs.Prelude.{◌≡◌, ◌+◌, ◌||◌, [], ◌∷◌, ◌++◌, IfOk, OnOk, nat_le, nat_lt};
 ghost use Rattle.std.specs.Result.{result_err};
 ghost use Rattle.building.specs.Starts.{executable, keeps};
 ghost use Rattle.building.specs.Outcome.{top, most_sections, first_refusal, section_refusal};
@@ -13,34 +13,35 @@ use base::image::{Section, SectionContribution};
 use base::refusal::Refusal;
 use image::ImageSource;
 pub use list::{MOST_SECTIONS, Sections};
-
-// The highest address.
-const TOP: u64 = 4294967295;
+use order::Span;
 
 impl Sections {
     pub fn empty() -> Sections
-        ensures { used result ≡ [] }
+        ensures count { result.count ≡ 0 }
+        ensures none { used result ≡ [] }
     {
-        let none = Section {
-            address: 0,
-            size: 0,
-            executable: false,
-        };
         Sections {
-            rows: [none; MOST_SECTIONS],
+            rows: [Section::default(); MOST_SECTIONS],
             count: 0,
         }
+    }
+
+    pub fn used(&self) -> &[Section]
+        ensures { result.now ≡ used self.now }
+    {
+        &self.rows[0..self.count]
     }
 
     // Numbers count from 1.
     pub fn executable(&self, number: u16) -> bool
         ensures { result ≡ executable (used self.now) number }
     {
-        let number = number as usize;
-        if number == 0 || number > self.count {
+        let Some(index) = usize::from(number).checked_sub(1) else {
             return false;
-        }
-        self.rows[number - 1].executable
+        };
+        self.used()
+            .get(index)
+            .is_some_and(|section| section.executable)
     }
 
     pub fn keeps(&self, contribution: &SectionContribution) -> bool
@@ -48,30 +49,36 @@ impl Sections {
     {
         contribution.size != 0 && self.executable(contribution.offset.section)
     }
+
+    fn push(&mut self, section: Section) -> Result<(), Refusal>
+        ensures refused { result_err result ≡ section_refusal self.old.count section }
+        ensures pushed { OnOk result (used self.new ≡ used self.old ++ section ∷ []) }
+        ensures counted { OnOk result (self.new.count ≡ self.old.count + 1) }
+    {
+        let item = self.count as u32;
+        if is_outside(item, &section) {
+            return Err(Refusal::SectionOutside { item });
+        }
+        self.rows[self.count] = section;
+        self.count += 1;
+        Ok(())
+    }
 }
 
 pub fn read_sections<S: ImageSource>(source: &S) -> Result<Sections, Refusal>
     ensures refused { result_err result ≡ first_refusal section_refusal 0 (S.ImageSource.image source.now).sections }
     ensures read { IfOk result (λ s. used s ≡ (S.ImageSource.image source.now).sections) }
 {
-    let mut rows = Sections::empty().rows;
-    let mut item: u32 = 0;
-    while let Some(section) = source.section(item) {
-        if is_outside(item, &section) {
-            return Err(Refusal::SectionOutside { item });
-        }
-        rows[item as usize] = section;
-        item += 1;
+    let mut sections = Sections::empty();
+    while let Some(section) = source.section(sections.count as u32) {
+        sections.push(section)?;
     }
-    Ok(Sections {
-        rows,
-        count: item as usize,
-    })
+    Ok(sections)
 }
 
 // Past the last section that is taken, or ending above the top.
 fn is_outside(item: u32, section: &Section) -> bool
     ensures { result ≡ (nat_le most_sections item || nat_lt top (section.now.address + section.now.size)) }
 {
-    item as usize >= MOST_SECTIONS || section.address as u64 + section.size as u64 > TOP
+    item as usize >= MOST_SECTIONS || section.end() > u64::from(u32::MAX)
 }

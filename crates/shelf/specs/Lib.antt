@@ -1,2 +1,2 @@
-pub mod Parents
+pub mod Kept
 pub mod Shelf

@@ -1,6 +1,6 @@
 // The shelf: the procedures of the module that was read last.
 #![tactic(auto)]
 
-mod keep;
 pub mod load;
+mod reading;
 pub mod shelf;

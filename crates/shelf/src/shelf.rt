@@ -8,7 +8,7 @@ use procedures::row::Procedure;
 // The most procedures that a module may have, by their offsets.
 pub const MOST_PROCEDURES: usize = 1024;
 
-// The first `count` rows are the procedures of `module`, in rising order of their offsets.
+// The first `count` rows are the procedures of `module`, in rising order of their offsets. An array, as there is no heap.
 #[derive(Drop)]
 pub struct Shelf {
     pub module: Option<u16>,

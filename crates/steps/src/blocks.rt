@@ -5,178 +5,83 @@ ghost use Rattle.std.specs.List.{slice_get};
 ghost use Rattle.base.specs.declared.context.KnownStart.{KnownStart as Start};
 ghost use Rattle.base.specs.declared.context.Contribution.{Contribution as Row};
 ghost use Rattle.base.specs.declared.image.SectionContribution.{SectionContribution as Item};
-ghost use Rattle.base.specs.declared.refusal.Refusal.TheVariants.{ContributionTableFull, ContributionOutside, Unordered};
+ghost use Rattle.base.specs.declared.refusal.Refusal.TheVariants.{Unordered};
+ghost use Rattle.table.specs.Slice.{SameSlice};
 ghost use Rattle.building.specs.Starts.{contribution_starts, or_else};
-ghost use Rattle.building.specs.Blocks.{end_of, block, grown, blocks, overlaps, first_overlap};
-ghost use Rattle.building.specs.Outcome.{top, item_refusal, all_symbols, all_kept, contributions_refused};
-ghost use Rattle.building.specs.Filling.{Holds, Filed, Reading, Proper};
+ghost use Rattle.building.specs.Blocks.{end_of, block, joins, grown, blocks, overlaps, first_overlap};
+ghost use Rattle.building.specs.Outcome.{outside, blocks_full, item_refusal, all_symbols, all_kept, contributions_refused};
+ghost use Rattle.building.specs.Filling.{Holds, Filed, Proper};
 ghost use Rattle.sections.specs.Used.{used};
+ghost use Rattle.steps.specs.Tables.{SameSlices, Reads};
 
+use crate::tables::Filling;
 use base::context::{Contribution, KnownStart};
-use base::image::{Entry, SectionContribution};
+use base::image::SectionContribution;
 use base::refusal::{FaultyList, Refusal, Step};
 use image::ImageSource;
 use sections::Sections;
-use starts::{add_start, end_list};
-use table::{Full, Table};
+use starts::add_start;
+use table::Table;
+
+fn end_of(item: u32, new: &SectionContribution) -> Result<u32, Refusal>
+    ensures refused { result_err result ≡ outside item new.now }
+    ensures end { IfOk result (λ n. n ≡ end_of new.now) }
+{
+    new.offset
+        .offset
+        .checked_add(new.size)
+        .ok_or(Refusal::ContributionOutside { item })
+}
 
 // The contribution as a block of its own.
 fn open_block(item: u32, new: &SectionContribution) -> Result<Contribution, Refusal>
-    ensures refused { result_err result ≡ (if nat_lt top (end_of new.now) then Some (ContributionOutside item) else None) }
+    ensures refused { result_err result ≡ outside item new.now }
     ensures opened { IfOk result (λ b. b ≡ block new.now) }
 {
-    match new.offset.offset.checked_add(new.size) {
-        Some(end) => Ok(Contribution {
-            section: new.offset.section,
-            start: new.offset.offset,
-            end,
-            module: new.module,
-        }),
-        None => Err(Refusal::ContributionOutside { item }),
-    }
+    let end = end_of(item, new)?;
+    Ok(Contribution {
+        section: new.offset.section,
+        start: new.offset.offset,
+        end,
+        module: new.module,
+    })
 }
 
 // The block that goes on up to the end of a contribution of its section and module.
 fn extend_block(
-    current: Contribution,
+    block: Contribution,
     item: u32,
     new: &SectionContribution,
 ) -> Result<Contribution, Refusal>
-    ensures refused { result_err result ≡ or_else (if nat_lt top (end_of new.now) then Some (ContributionOutside item) else None) (if nat_lt new.now.offset.offset current.start || nat_lt (end_of new.now) current.end then Some (Unordered item new.now.«module» new.now.offset.section) else None) }
-    ensures grown { IfOk result (λ b. b ≡ grown current new.now) }
+    ensures refused { result_err result ≡ or_else (outside item new.now) (if nat_lt new.now.offset.offset block.start || nat_lt (end_of new.now) block.end then Some (Unordered item new.now.«module» new.now.offset.section) else None) }
+    ensures grown { IfOk result (λ b. b ≡ grown block new.now) }
 {
-    let Some(end) = new.offset.offset.checked_add(new.size) else {
-        return Err(Refusal::ContributionOutside { item });
-    };
-    if new.offset.offset < current.start || end < current.end {
+    let end = end_of(item, new)?;
+    if new.offset.offset < block.start || end < block.end {
         return Err(Refusal::Unordered {
             item,
             module: new.module,
             section: new.offset.section,
         });
     }
-    Ok(Contribution {
-        section: current.section,
-        start: current.start,
-        end,
-        module: current.module,
-    })
+    Ok(Contribution { end, ..block })
 }
 
 fn close_block(contributions: &mut Table<Contribution>, block: Contribution) -> Result<(), Refusal>
-    ensures refused { (bs old : List Row) → Filed bs old contributions.old.rows.now contributions.old.count → result_err result ≡ (if nat_lt (length old) (length (block ∷ bs)) then Some ContributionTableFull else None) }
+    ensures refused { (bs old : List Row) → Filed bs old contributions.old.rows.now contributions.old.count → result_err result ≡ blocks_full (length old) (block ∷ bs) }
     ensures added { (bs old : List Row) → Filed bs old contributions.old.rows.now contributions.old.count → is_ok result ≡ true → Filed (block ∷ bs) old contributions.new.rows.now contributions.new.count }
-    ensures lender { contributions.new.rows.ghost_name ≡ contributions.old.rows.ghost_name }
-    ensures long { length contributions.new.rows.now ≡ length contributions.old.rows.now }
+    ensures slice { SameSlice contributions.old contributions.new }
 {
-    match contributions.insert(block) {
-        Ok(()) => Ok(()),
-        Err(Full) => Err(Refusal::ContributionTableFull),
-    }
+    contributions
+        .insert(block)
+        .map_err(|_| Refusal::ContributionTableFull)
 }
 
-// Closes the block that is open at the end of the list.
-fn close_last(
-    contributions: &mut Table<Contribution>,
-    current: Option<Contribution>,
-) -> Result<(), Refusal>
-    ensures refused { (bs old : List Row) → Filed (drop 1 bs) old contributions.old.rows.now contributions.old.count → current ≡ slice_get bs 0 → result_err result ≡ (if nat_lt (length old) (length bs) then Some ContributionTableFull else None) }
-    ensures closed { (bs old : List Row) → Filed (drop 1 bs) old contributions.old.rows.now contributions.old.count → current ≡ slice_get bs 0 → is_ok result ≡ true → Filed bs old contributions.new.rows.now contributions.new.count }
-    ensures lender { contributions.new.rows.ghost_name ≡ contributions.old.rows.ghost_name }
-    ensures long { length contributions.new.rows.now ≡ length contributions.old.rows.now }
+// Whether `new` goes on with the block.
+fn joins(block: &Contribution, new: &SectionContribution) -> bool
+    ensures { result ≡ joins block.now new.now }
 {
-    match current {
-        Some(block) => close_block(contributions, block),
-        None => Ok(()),
-    }
-}
-
-// One contribution that counts; answers the block that is open after it.
-fn add_contribution(
-    starts: &mut Table<KnownStart>,
-    contributions: &mut Table<Contribution>,
-    current: Option<Contribution>,
-    item: u32,
-    new: SectionContribution,
-) -> Result<Contribution, Refusal>
-    ensures refused { (symbols : List Start) (cs : List Item) (old : List Start) (rows : List Row) → Reading symbols cs old starts.old.rows.now starts.old.count rows contributions.old.rows.now contributions.old.count current → result_err result ≡ item_refusal (length old) (length rows) symbols cs item new }
-    ensures read { (symbols : List Start) (cs : List Item) (old : List Start) (rows : List Row) → Reading symbols cs old starts.old.rows.now starts.old.count rows contributions.old.rows.now contributions.old.count current → 0 < new.size → IfOk result (λ b. Reading symbols (cs ++ new ∷ []) old starts.new.rows.now starts.new.count rows contributions.new.rows.now contributions.new.count (Some b)) }
-    ensures starts_lender { starts.new.rows.ghost_name ≡ starts.old.rows.ghost_name }
-    ensures starts_long { length starts.new.rows.now ≡ length starts.old.rows.now }
-    ensures contributions_lender { contributions.new.rows.ghost_name ≡ contributions.old.rows.ghost_name }
-    ensures contributions_long { length contributions.new.rows.now ≡ length contributions.old.rows.now }
-{
-    let Some(block) = current else {
-        return open_block(item, &new);
-    };
-    let start = KnownStart {
-        offset: new.offset,
-        name: None,
-    };
-    add_start(starts, start, Step::ReadContributions)?;
-    if block.section == new.offset.section && block.module == new.module {
-        return extend_block(block, item, &new);
-    }
-    close_block(contributions, block)?;
-    open_block(item, &new)
-}
-
-// The contributions as blocks, and the starts that they add.
-pub(crate) fn read_contributions<S: ImageSource>(
-    source: &S,
-    sections: &Sections,
-    starts: &mut Table<KnownStart>,
-    contributions: &mut Table<Contribution>,
-) -> Result<(), Refusal>
-    ensures refused { (old : List Start) (rows : List Row) → used sections.now ≡ (S.ImageSource.image source.now).sections → Holds (all_symbols (S.ImageSource.image source.now)) old starts.old.rows.now starts.old.count → Filed [] rows contributions.old.rows.now contributions.old.count → result_err result ≡ contributions_refused (S.ImageSource.image source.now) (length old) (length rows) }
-    ensures read { (old : List Start) (rows : List Row) → used sections.now ≡ (S.ImageSource.image source.now).sections → Holds (all_symbols (S.ImageSource.image source.now)) old starts.old.rows.now starts.old.count → Filed [] rows contributions.old.rows.now contributions.old.count → is_ok result ≡ true → Holds (all_symbols (S.ImageSource.image source.now) ++ contribution_starts (all_kept (S.ImageSource.image source.now))) old starts.new.rows.now starts.new.count × Filed (blocks (all_kept (S.ImageSource.image source.now))) rows contributions.new.rows.now contributions.new.count × Proper (blocks (all_kept (S.ImageSource.image source.now))) }
-    ensures starts_lender { starts.new.rows.ghost_name ≡ starts.old.rows.ghost_name }
-    ensures starts_long { length starts.new.rows.now ≡ length starts.old.rows.now }
-    ensures contributions_lender { contributions.new.rows.ghost_name ≡ contributions.old.rows.ghost_name }
-    ensures contributions_long { length contributions.new.rows.now ≡ length contributions.old.rows.now }
-{
-    let mut current = None;
-    let mut item: u32 = 0;
-    loop {
-        match source.contribution(item) {
-            Entry::Item(contribution) => {
-                if sections.keeps(&contribution) {
-                    let block = add_contribution(
-                        starts,
-                        contributions,
-                        current,
-                        item,
-                        contribution,
-                    )?;
-                    current = Some(block);
-                }
-                item += 1;
-            }
-            Entry::End(ending) => {
-                end_list(FaultyList::Contributions, ending)?;
-                return close_last(contributions, current);
-            }
-        }
-    }
-}
-
-// The contributions are in order; do two neighbours overlap?
-pub(crate) fn check_overlaps(contributions: &Table<Contribution>) -> Result<(), Refusal>
-    ensures { result_err result ≡ first_overlap (take contributions.now.count contributions.now.rows.now) }
-{
-    let count = contributions.count.min(contributions.rows.len());
-    for k in 1..count {
-        let before = contributions.rows[k - 1];
-        let next = contributions.rows[k];
-        if overlap(&before, &next) {
-            return Err(Refusal::Overlapping {
-                section: before.section,
-                first: before.module,
-                second: next.module,
-            });
-        }
-    }
-    Ok(())
+    block.section == new.offset.section && block.module == new.module
 }
 
 // Whether `next`, which does not come before `before`, starts below its end.
@@ -184,4 +89,86 @@ fn overlap(before: &Contribution, next: &Contribution) -> bool
     ensures { result ≡ overlaps before.now next.now }
 {
     before.section == next.section && next.start < before.end
+}
+
+impl Filling<'_> {
+    // The contributions as blocks, and the starts that they add.
+    pub(crate) fn read_contributions<S: ImageSource>(
+        &mut self,
+        source: &S,
+        sections: &Sections,
+    ) -> Result<(), Refusal>
+        ensures refused { (old : List Start) (rows : List Row) → used sections.now ≡ (S.ImageSource.image source.now).sections → Holds (all_symbols (S.ImageSource.image source.now)) old self.old.starts.rows.now self.old.starts.count → Filed [] rows self.old.contributions.rows.now self.old.contributions.count → result_err result ≡ contributions_refused (S.ImageSource.image source.now) (length old) (length rows) }
+        ensures read { (old : List Start) (rows : List Row) → used sections.now ≡ (S.ImageSource.image source.now).sections → Holds (all_symbols (S.ImageSource.image source.now)) old self.old.starts.rows.now self.old.starts.count → Filed [] rows self.old.contributions.rows.now self.old.contributions.count → is_ok result ≡ true → Holds (all_symbols (S.ImageSource.image source.now) ++ contribution_starts (all_kept (S.ImageSource.image source.now))) old self.new.starts.rows.now self.new.starts.count × Filed (blocks (all_kept (S.ImageSource.image source.now))) rows self.new.contributions.rows.now self.new.contributions.count × Proper (blocks (all_kept (S.ImageSource.image source.now))) }
+        ensures slices { SameSlices self.old self.new }
+    {
+        self.newest = None;
+        for item in 0..=u32::MAX {
+            let answer = FaultyList::Contributions.refuse(source.contribution(item));
+            let Some(contribution) = answer? else {
+                return self.close_newest();
+            };
+            if sections.keeps(&contribution) {
+                let block = self.next_block(item, &contribution)?;
+                self.newest = Some(block);
+            }
+        }
+        Ok(())
+    }
+
+    // One contribution that counts; answers the block that is open after it.
+    fn next_block(&mut self, item: u32, new: &SectionContribution) -> Result<Contribution, Refusal>
+        ensures refused { (symbols : List Start) (cs : List Item) (old : List Start) (rows : List Row) → Reads symbols cs old rows self.old → result_err result ≡ item_refusal (length old) (length rows) symbols cs item new.now }
+        ensures read { (symbols : List Start) (cs : List Item) (old : List Start) (rows : List Row) → Reads symbols cs old rows self.old → 0 < new.now.size → IfOk result (λ b. Reads symbols (cs ++ new.now ∷ []) old rows (record { starts = self.new.starts; contributions = self.new.contributions; newest = Some b })) }
+        ensures slices { SameSlices self.old self.new }
+    {
+        let Some(block) = self.newest else {
+            return open_block(item, new);
+        };
+        add_start(
+            &mut self.starts,
+            KnownStart::from(new.offset),
+            Step::ReadContributions,
+        )?;
+        if joins(&block, new) {
+            return extend_block(block, item, new);
+        }
+        close_block(&mut self.contributions, block)?;
+        open_block(item, new)
+    }
+
+    // Closes the block that is open at the end of the list.
+    fn close_newest(&mut self) -> Result<(), Refusal>
+        ensures refused { (bs old : List Row) → Filed (drop 1 bs) old self.old.contributions.rows.now self.old.contributions.count → self.old.newest ≡ slice_get bs 0 → result_err result ≡ blocks_full (length old) bs }
+        ensures closed { (bs old : List Row) → Filed (drop 1 bs) old self.old.contributions.rows.now self.old.contributions.count → self.old.newest ≡ slice_get bs 0 → is_ok result ≡ true → Filed bs old self.new.contributions.rows.now self.new.contributions.count }
+        ensures starts { self.new.starts ≡ self.old.starts }
+        ensures slice { SameSlice self.old.contributions self.new.contributions }
+    {
+        match self.newest {
+            Some(block) => close_block(&mut self.contributions, block),
+            None => Ok(()),
+        }
+    }
+
+    // The contributions are in order; do two neighbours overlap?
+    pub(crate) fn check_overlaps(&self) -> Result<(), Refusal>
+        ensures { result_err result ≡ first_overlap (take self.now.contributions.count self.now.contributions.rows.now) }
+    {
+        let contributions = self.contributions.used();
+        let [first, others @ ..] = contributions.rows else {
+            return Ok(());
+        };
+        let mut before = first;
+        for next in others {
+            if overlap(before, next) {
+                return Err(Refusal::Overlapping {
+                    section: before.section,
+                    first: before.module,
+                    second: next.module,
+                });
+            }
+            before = next;
+        }
+        Ok(())
+    }
 }

@@ -3,3 +3,4 @@
 
 mod blocks;
 pub mod fill;
+pub mod tables;

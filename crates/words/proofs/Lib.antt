@@ -1,4 +1,1 @@
 mod Digits
-mod Escapes
-mod Cutting
-pub mod Scanning

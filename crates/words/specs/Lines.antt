@@ -1,35 +1,27 @@
 -- The next word of a line. Assumes nothing.
 use Rattle.std.specs.Prelude.{ℕ, ◌+◌, Bool, false, cond, not, ◌&&◌, ◌||◌, List, [], ◌∷◌, take, drop, Some, None, Ok, Err, Option, Result, ◌==◌}
 use Rattle.std.specs.Borrow.{Bor}
-use Rattle.std.specs.Option.{option_map}
-use Rattle.words.specs.declared.scan.Front.{Front}
-use Rattle.words.specs.declared.scan.Front.TheVariants.{Blank, Plain}
+use Rattle.std.specs.List.{prefix_len, take_while}
 use Rattle.words.specs.declared.scan.OpenQuote.{OpenQuote}
 use Rattle.words.specs.declared.scan.Word.{Word}
-use Rattle.words.specs.declared.scan.Word.TheVariants.{Plain as Bare, Quoted}
+use Rattle.words.specs.declared.scan.Word.TheVariants.{Plain, Quoted}
 
 -- a blank, a tab or a carriage return
 abbrev pub blank : ℕ → Bool
 blank c = c == 32 || (c == 9 || c == 13)
 
--- the bytes of a plain word: not blank, and neither # nor "
-abbrev pub of_front : Front → ℕ → Bool
-of_front Blank c = blank c
-of_front Plain c = not (blank c || (c == 35 || c == 34))
+-- a byte of a plain word: not blank, and neither # nor "
+abbrev pub plain : ℕ → Bool
+plain c = not (blank c || (c == 35 || c == 34))
 
--- how many bytes in front pass a test
-abbrev pub front_length : (ℕ → Bool) → List ℕ → ℕ
-front_length test [] = 0
-front_length test (c ∷ cs) = cond (test c) (1 + front_length test cs) 0
-
--- how many bytes stand before the first " that stands after no backslash; a backslash after a backslash is no such one
-abbrev pub before_quote : Bool → List ℕ → Option ℕ
-before_quote escaped [] = None
-before_quote escaped (c ∷ cs) = cond (not escaped && c == 34) (Some 0) (option_map (λ n. 1 + n) (before_quote (not escaped && c == 92) cs))
+-- where the first " stands that is after no backslash, in a list that starts at place i; a backslash after a backslash is no such one
+abbrev pub before_quote : ℕ → Bool → List ℕ → Option ℕ
+before_quote i escaped [] = None
+before_quote i escaped (c ∷ cs) = cond (not escaped && c == 34) (Some i) (before_quote (i + 1) (not escaped && c == 92) cs)
 
 -- the next word and what stands after it; no word; or a quoted word that the line's end cuts off
 pub data Next : Type 0 where
-  plain : List ℕ → List ℕ → Next
+  unquoted : List ℕ → List ℕ → Next
   quoted : List ℕ → List ℕ → Next
   nothing : Next
   cut_off : Next
@@ -39,19 +31,19 @@ quoted_next cs None = cut_off
 quoted_next cs (Some n) = quoted (take n cs) (drop (n + 1) cs)
 
 abbrev pub plain_next : List ℕ → Next
-plain_next cs = plain (take (front_length (of_front Plain) cs) cs) (drop (front_length (of_front Plain) cs) cs)
+plain_next cs = unquoted (take_while plain cs) (drop (prefix_len plain cs) cs)
 
 -- with no blank space in front
 abbrev pub first_next : List ℕ → Next
 first_next [] = nothing
-first_next (c ∷ cs) = cond (c == 35) nothing (cond (c == 34) (quoted_next cs (before_quote false cs)) (plain_next (c ∷ cs)))
+first_next (c ∷ cs) = cond (c == 35) nothing (cond (c == 34) (quoted_next cs (before_quote 0 false cs)) (plain_next (c ∷ cs)))
 
 abbrev pub next_of : List ℕ → Next
-next_of line = first_next (drop (front_length (of_front Blank) line) line)
+next_of line = first_next (drop (prefix_len blank line) line)
 
 -- what an answer says, given what stands after the word
 abbrev pub said : Word → List ℕ → Next
-said (Bare w) rest = plain w.now rest
+said (Plain w) rest = unquoted w.now rest
 said (Quoted w) rest = quoted w.now rest
 
 abbrev pub told : Result (Option (Word × Bor (List ℕ))) OpenQuote → Next
@@ -66,7 +58,7 @@ told_with (Ok (Some w)) rest = said w rest
 
 -- what is left of a line
 abbrev pub left_of : Next → List ℕ → List ℕ
-left_of (plain w rest) line = rest
+left_of (unquoted w rest) line = rest
 left_of (quoted w rest) line = rest
 left_of nothing line = line
 left_of cut_off line = line

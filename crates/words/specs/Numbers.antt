@@ -1,19 +1,22 @@
 -- What number a word writes. Assumes nothing.
-use Rattle.std.specs.Prelude.{ℕ, ◌^◌, Bool, true, cond, ◌&&◌, List, [], ◌∷◌, drop, Ok, Err, Result, ◌==◌, nat_lt, slice_index}
-use Rattle.std.specs.Str.Parse.{digits_value}
-use Rattle.std.specs.Char.{digit_value}
+use Rattle.std.specs.Prelude.{ℕ, ◌^◌, Bool, cond, ◌&&◌, List, length, drop, Ok, Err, Result, ◌==◌, nat_lt, slice_index}
+use Rattle.std.specs.List.{list_all}
+use Rattle.std.specs.Str.Parse.{digits_value_after}
+use Rattle.std.specs.Char.{is_digit}
 use Rattle.words.specs.declared.number.NotNumber.{NotNumber}
 use Rattle.words.specs.declared.number.NotNumber.TheVariants.{NotDigits, TooLarge}
 
 abbrev pub all_digits : ℕ → List ℕ → Bool
-all_digits base [] = true
-all_digits base (c ∷ cs) = nat_lt (digit_value c) base && all_digits base cs
+all_digits base cs = list_all (λ c. is_digit c base) cs
 
--- one digit or more, and nothing else; `value` reads them from the left, each digit worth `base` times the next
+-- what digits write after others that write `value`; each is worth `base` times the next
+abbrev pub read_on : ℕ → ℕ → List ℕ → Result ℕ NotNumber
+read_on base value cs =
+    cond (all_digits base cs) (cond (nat_lt (digits_value_after base value cs) (2 ^ 32)) (Ok (digits_value_after base value cs)) (Err TooLarge)) (Err NotDigits)
+
+-- one digit or more, and nothing else
 abbrev pub numeral : ℕ → List ℕ → Result ℕ NotNumber
-numeral base [] = Err NotDigits
-numeral base (c ∷ cs) =
-    cond (all_digits base (c ∷ cs)) (cond (nat_lt (digits_value base (c ∷ cs)) (2 ^ 32)) (Ok (digits_value base (c ∷ cs))) (Err TooLarge)) (Err NotDigits)
+numeral base cs = cond (length cs == 0) (Err NotDigits) (read_on base 0 cs)
 
 -- hexadecimal after 0x, and else decimal
 abbrev pub number_of : List ℕ → Result ℕ NotNumber

@@ -1,6 +1,6 @@
 -- What the bytes between two quotes stand for. Assumes nothing.
 use Rattle.std.specs.Prelude.{◌≡◌, ℕ, ◌+◌, ◌*◌, ◌<◌, cond, List, [], ◌∷◌, ◌++◌, Some, None, Ok, Err, Option, Result, ◌==◌, nat_lt}
-use Rattle.std.specs.Option.{option_map}
+use Rattle.std.specs.Option.{option_map, option_to_list}
 use Rattle.std.specs.Char.{digit_value}
 use Rattle.words.specs.declared.quote.Place.{Place}
 use Rattle.words.specs.declared.quote.Place.TheVariants.{Plain, Slash, High, Low}
@@ -22,8 +22,7 @@ stepped High c = option_map (λ d. (Low d, None)) (hex_digit c)
 stepped (Low h) c = option_map (λ d. (Plain, Some (16 * h + d))) (hex_digit c)
 
 abbrev pub put : Option ℕ → List ℕ → List ℕ
-put None bs = bs
-put (Some b) bs = b ∷ bs
+put b bs = option_to_list b ++ bs
 
 abbrev pub finished : Place → Option (List ℕ)
 finished Plain = Some []

@@ -32,14 +32,8 @@ fn in_base(digits: &[u8], base: u32) -> Result<u32, NotNumber>
     }
     let mut value: u64 = 0;
     for b in digits {
-        let Some(digit) = (*b as char).to_digit(base) else {
-            return Err(NotNumber::NotDigits);
-        };
-        value = (value * base as u64 + digit as u64).min(LIMIT);
+        let digit = char::from(*b).to_digit(base).ok_or(NotNumber::NotDigits)?;
+        value = (value * u64::from(base) + u64::from(digit)).min(LIMIT);
     }
-    if value < LIMIT {
-        Ok(value as u32)
-    } else {
-        Err(NotNumber::TooLarge)
-    }
+    u32::try_from(value).map_err(|_| NotNumber::TooLarge)
 }

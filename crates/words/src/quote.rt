@@ -37,9 +37,7 @@ pub fn unquote(raw: &[u8], out: &mut Vec<u8>) -> Result<(), QuoteError>
 {
     let mut place = Place::Plain;
     for b in raw {
-        let Some((next, byte)) = step(place, *b) else {
-            return Err(QuoteError::BadEscape);
-        };
+        let (next, byte) = step(place, *b).ok_or(QuoteError::BadEscape)?;
         if let Some(byte) = byte {
             out.push(byte)?;
         }
@@ -83,8 +81,5 @@ fn escape(c: u8) -> Option<u8>
 fn hex_digit(c: u8) -> Option<u8>
     ensures { result ≡ hex_digit c }
 {
-    match (c as char).to_digit(16) {
-        Some(digit) => Some(digit as u8),
-        None => None,
-    }
+    char::from(c).to_digit(16).map(|digit| digit as u8)
 }

@@ -1,8 +1,9 @@
 // Cuts a line into words.
-ghost use Rattle.std.specs.Prelude.{◌≡◌, ◌+◌, ◌<◌, ◌≤◌, false, length, IfSome, MatchOption};
+ghost use Rattle.std.specs.Prelude.{◌≡◌, ◌+◌, ◌<◌, ◌≤◌, ◌==◌, position, false, length, IfSome};
+ghost use Rattle.std.specs.List.{prefix_len};
 ghost use Rattle.std.specs.Option.{option_map};
 ghost use Rattle.words.specs.Cuts.{cut_at, cut_parts};
-ghost use Rattle.words.specs.Lines.{of_front, front_length, before_quote, next_of, told, told_with, left_of};
+ghost use Rattle.words.specs.Lines.{blank, plain, before_quote, next_of, told, told_with, left_of};
 
 // A quoted word has the bytes between its quotes, as they stand in the line.
 #[derive(Clone, Copy)]
@@ -47,56 +48,44 @@ impl<'a> Scanner<'a> {
 pub fn next_word<'a>(line: &'a [u8]) -> Result<Option<(Word<'a>, &'a [u8])>, OpenQuote>
     ensures { told result ≡ next_of line.now }
 {
-    let line = &line[front_length(line, Front::Blank)..];
+    let line = &line[blank_length(line)..];
     match line {
-        [] => Ok(None),
-        [b'#', ..] => Ok(None),
+        [] | [b'#', ..] => Ok(None),
         [b'"', quoted @ ..] => {
-            let Some(end) = before_quote(quoted) else {
-                return Err(OpenQuote);
-            };
-            Ok(Some((Word::Quoted(&quoted[0..end]), &quoted[end + 1..])))
+            let end = before_quote(quoted).ok_or(OpenQuote)?;
+            Ok(Some((Word::Quoted(&quoted[..end]), &quoted[end + 1..])))
         }
         _ => {
-            let end = front_length(line, Front::Plain);
-            Ok(Some((Word::Plain(&line[0..end]), &line[end..])))
+            let (word, rest) = line.split_at(plain_length(line));
+            Ok(Some((Word::Plain(word), rest)))
         }
     }
 }
 
-// What stands in front of a line: blank space, or a plain word.
-#[derive(Clone, Copy)]
-enum Front {
-    Blank,
-    Plain,
+// How many blank bytes stand in front.
+fn blank_length(line: &[u8]) -> usize
+    ensures value { result ≡ prefix_len blank line.now }
+    ensures within { result ≤ length line.now }
+{
+    line.iter()
+        .take_while(|b| matches!(**b, b' ' | b'\t' | b'\r'))
+        .count()
 }
 
-fn is_of(b: u8, front: Front) -> bool
-    ensures { result ≡ of_front front b }
+// How many bytes in front may stand in a plain word.
+fn plain_length(line: &[u8]) -> usize
+    ensures value { result ≡ prefix_len plain line.now }
+    ensures within { result ≤ length line.now }
 {
-    match front {
-        Front::Blank => matches!(b, b' ' | b'\t' | b'\r'),
-        Front::Plain => !matches!(b, b' ' | b'\t' | b'\r' | b'#' | b'"'),
-    }
-}
-
-// How many bytes it has.
-fn front_length(bytes: &[u8], front: Front) -> usize
-    ensures value { result ≡ front_length (of_front front) bytes.now }
-    ensures within { result ≤ length bytes.now }
-{
-    for (i, b) in bytes.iter().enumerate() {
-        if !is_of(*b, front) {
-            return i;
-        }
-    }
-    bytes.len()
+    line.iter()
+        .take_while(|b| !matches!(**b, b' ' | b'\t' | b'\r' | b'#' | b'"'))
+        .count()
 }
 
 // How many bytes stand before the quote that ends a quoted word.
 fn before_quote(bytes: &[u8]) -> Option<usize>
-    ensures value { result ≡ before_quote false bytes.now }
-    ensures within { MatchOption result (⊥ → ⊥) (λ i. i < length bytes.now) }
+    ensures value { result ≡ before_quote 0 false bytes.now }
+    ensures within { IfSome result (λ i. i < length bytes.now) }
 {
     let mut escaped = false;
     for (i, b) in bytes.iter().enumerate() {
@@ -116,10 +105,13 @@ pub fn cut(bytes: &[u8], mark: u8) -> Option<(&[u8], &[u8])>
     ensures value { option_map cut_parts result ≡ cut_at mark bytes.now }
     ensures len { IfSome result (λ p. length p.0.now + 1 + length p.1.now ≡ length bytes.now) }
 {
-    for (i, b) in bytes.iter().enumerate() {
-        if *b == mark {
-            return Some((&bytes[0..i], &bytes[i + 1..]));
-        }
-    }
-    None
+    let at = place_of(bytes, mark)?;
+    Some((&bytes[..at], &bytes[at + 1..]))
+}
+
+// On its own, since within `cut` the proof of the same chain did not close.
+fn place_of(bytes: &[u8], mark: u8) -> Option<usize>
+    ensures { result ≡ position (λ c. c == mark) bytes.now }
+{
+    bytes.iter().position(|b| *b == mark)
 }

@@ -1,69 +1,67 @@
-use Rattle.std.proofs.Common.{◌≡◌, ◌≤◌, false, ◌++◌, length, get_or, take, Some, refl, ap, ◌∙◌, subst, arith, rules}
+use Rattle.std.proofs.Common.{◌≡◌, ◌+◌, ◌<◌, ◌≤◌, ℕ, List, false, cond, ltb, ◌++◌, ◌∷◌, [], length, take, get_or, Some, None, refl, ap, ◌∙◌, sym, subst, arith}
 use Rattle.std.specs.List.{slice_get}
 use Rattle.std.specs.Result.{result_err}
-use Rattle.std.proofs.lemmas.List.{take_all, length-take}
+use Rattle.std.proofs.lemmas.List.{take_all}
+use Rattle.std.proofs.lemmas.Option.{slice_get-get_or}
 use Rattle.std.proofs.lemmas.Result.{err_from_is_err_and}
+use Rattle.table.specs.Slice.{SameSlice}
 use Rattle.base.specs.declared.image.Section.{Section}
 use Rattle.base.specs.declared.refusal.Refusal.TheVariants.{StartTableFull}
 use Rattle.base.specs.declared.refusal.Step.TheVariants.{AddSectionEnds}
-use Rattle.building.specs.Starts.{section_ends}
+use Rattle.building.specs.Starts.{section_ends, offset_count}
 use Rattle.building.specs.Filling.{Holds}
-use Rattle.building.proofs.Outcomes.{never_ok}
-use Rattle.building.proofs.Sections.{used-at, ends_kept, ends_skipped, ends_full}
-use Rattle.building.proofs.Symbols.{holds-room}
+use Rattle.building.proofs.Sections.{ends_kept, ends_skipped, ends_full}
 use Rattle.sections.specs.Used.{used}
 use Rattle.starts.proofs.add_section_ends.Goals as goal
+use Rattle.starts.proofs.add_section_ends.Goals.{then-section+in_ok-add_start, else-section}
 
 abbrev none : Section
 none = record { address = 0; size = 0; executable = false }
 
-pub loop-number-preserved-in-Continue-1 : goal.loop-number-preserved-in-Continue-1
-loop-number-preserved-in-Continue-1 c =
-    let s = c.args.sections.now in
-    let k = c.loop-number.number in
-    let few : s.count ≤ length s.rows = search rules in
-    let found : slice_get (used s) k ≡ Some (get_or s.rows k none) = used-at s.rows s.count k none c.loop-number-test.true few in (
-      omega arith,
-      λ cs old h. subst (λ ss. Holds ss old c.add_start.new.starts.rows.now c.add_start.new.starts.count) (ends_kept cs (used s) k (get_or s.rows k none) found c.if-section.true)
-          (c.in_ok-add_start.ensures.added (cs ++ section_ends 1 (take k (used s))) old (c.loop-number.invariant.1 cs old h) refl),
-      c.add_start.ensures.lender ∙ c.loop-number.invariant.2,
-      c.add_start.ensures.long ∙ c.loop-number.invariant.3,
-    )
+-- the section at an index of the used ones
+at_index : (sections lent : List Section) (k : ℕ) → lent ≡ sections → k < length lent → slice_get sections k ≡ Some (get_or lent k none)
+at_index sections lent k e l = subst (λ xs. slice_get xs k ≡ Some (get_or lent k none)) e (slice_get-get_or lent k none l)
 
-pub loop-number-preserved : goal.loop-number-preserved
-loop-number-preserved c =
-    let s = c.args.sections.now in
-    let k = c.loop-number.number in
-    let few : s.count ≤ length s.rows = search rules in
-    let found : slice_get (used s) k ≡ Some (get_or s.rows k none) = used-at s.rows s.count k none c.loop-number-test.true few in (
-      omega arith,
-      λ cs old h. subst (λ ss. Holds ss old c.loop-number.starts.rows.now c.loop-number.starts.count) (ends_skipped cs (used s) k (get_or s.rows k none) found c.if-section.false) (c.loop-number.invariant.1 cs old h),
-      c.loop-number.invariant.2,
-      c.loop-number.invariant.3,
-    )
-
-pub returns-in_err-add_start : goal.returns-in_err-add_start
-returns-in_err-add_start c =
-    let s = c.args.sections.now in
-    let k = c.loop-number.number in
-    let few : s.count ≤ length s.rows = search rules in
-    let found : slice_get (used s) k ≡ Some (get_or s.rows k none) = used-at s.rows s.count k none c.loop-number-test.true few in
+pub returns-in_err-add_start-clause-refused : goal.returns-in_err-add_start-clause-refused
+returns-in_err-add_start-clause-refused c = λ cs old h.
+    let sections = used c.args.sections.now in
+    let lent = c.used-section-items.result.now in
+    let k = c.loop-index.index in
+    let found = at_index sections lent k c.used-section-items.ensures c.loop-index-test.true in
     let p = err_from_is_err_and c.from_residual.result c.from_residual.ensures.1 in
-    record {
-      refused = λ cs old h. ap result_err p.1 ∙ ap Some p.2 ∙ ends_full cs (used s) k (get_or s.rows k none) found c.if-section.true (length old) _ (StartTableFull AddSectionEnds)
-          (c.in_err-add_start.ensures.refused (cs ++ section_ends 1 (take k (used s))) old (c.loop-number.invariant.1 cs old h));
-      added = λ cs old h ok. absurd (never_ok c.from_residual.result p.0 p.1 ok);
-      lender = c.add_start.ensures.lender ∙ c.loop-number.invariant.2;
-      long = c.add_start.ensures.long ∙ c.loop-number.invariant.3;
-    }
+    ap result_err p.1 ∙ ap Some p.2 ∙
+    ends_full cs sections k (get_or lent k none) found c.if-section.true (length old) _ (StartTableFull AddSectionEnds)
+    (subst (λ x. Some c.in_err-add_start.field-0.0 ≡ cond (ltb (length old) (offset_count ((cs ++ section_ends 1 (take k sections)) ++ x ∷ []))) (Some (StartTableFull AddSectionEnds)) None) c.from.ensures
+    (c.in_err-add_start.ensures.refused (cs ++ section_ends 1 (take k sections)) old (c.loop-index.invariant.1 cs old h)))
 
-pub returns : goal.returns
-returns c =
-    let s = c.args.sections.now in
-    let whole : take c.loop-number.number (used s) ≡ used s = take_all c.loop-number.number (used s) (let e = length-take s.count s.rows in omega (arith, c.loop-number-test.false)) in
-    record {
-      refused = λ cs old h. holds-room (cs ++ section_ends 1 (used s)) old c.loop-number.starts.rows.now c.loop-number.starts.count (StartTableFull AddSectionEnds) (subst (λ ss. Holds (cs ++ section_ends 1 ss) old c.loop-number.starts.rows.now c.loop-number.starts.count) whole (c.loop-number.invariant.1 cs old h));
-      added = λ cs old h _. subst (λ ss. Holds (cs ++ section_ends 1 ss) old c.loop-number.starts.rows.now c.loop-number.starts.count) whole (c.loop-number.invariant.1 cs old h);
-      lender = c.loop-number.invariant.2;
-      long = c.loop-number.invariant.3;
-    }
+pub loop-index-preserved : goal.loop-index-preserved
+loop-index-preserved c =
+    let sections = used c.args.sections.now in
+    let lent = c.used-section-items.result.now in
+    let k = c.loop-index.index in
+    let found = at_index sections lent k c.used-section-items.ensures c.loop-index-test.true in
+    let within : k + 1 ≤ length sections = subst (λ xs. k + 1 ≤ length xs) c.used-section-items.ensures (omega (arith, c.loop-index-test.true)) in
+    elim c.if-section.branch [
+      | then-section+in_ok-add_start w ↦ (
+        within,
+        λ cs old h.
+            let added = w.in_ok-add_start.ensures.added (cs ++ section_ends 1 (take k sections)) old (c.loop-index.invariant.1 cs old h) refl in
+            subst (λ t. Holds (cs ++ section_ends 1 (take (k + 1) sections)) old t.rows.now t.count) (sym w.starts-is)
+            (subst (λ ss. Holds ss old w.add_start.new.starts.rows.now w.add_start.new.starts.count) (ends_kept cs sections k (get_or lent k none) found w.if-section.true)
+            (subst (λ x. Holds ((cs ++ section_ends 1 (take k sections)) ++ x ∷ []) old w.add_start.new.starts.rows.now w.add_start.new.starts.count) w.from.ensures added)),
+        subst (λ t. SameSlice c.args.starts.now t) (sym w.starts-is) (w.add_start.ensures.slice.0 ∙ c.loop-index.invariant.2.0, w.add_start.ensures.slice.1 ∙ c.loop-index.invariant.2.1),
+      )
+      | else-section w ↦ (
+        within,
+        λ cs old h.
+            subst (λ t. Holds (cs ++ section_ends 1 (take (k + 1) sections)) old t.rows.now t.count) (sym w.starts-is)
+            (subst (λ ss. Holds ss old c.loop-index.starts.rows.now c.loop-index.starts.count) (ends_skipped cs sections k (get_or lent k none) found w.if-section.false) (c.loop-index.invariant.1 cs old h)),
+        subst (λ t. SameSlice c.args.starts.now t) (sym w.starts-is) c.loop-index.invariant.2,
+      )
+    ]
+
+pub returns-clause-added : goal.returns-clause-added
+returns-clause-added c = λ cs old h _.
+    let sections = used c.args.sections.now in
+    let past : length sections ≤ c.loop-index.index = subst (λ xs. length xs ≤ c.loop-index.index) c.used-section-items.ensures (omega (arith, c.loop-index-test.false)) in
+    subst (λ ss. Holds (cs ++ section_ends 1 ss) old c.loop-index.starts.rows.now c.loop-index.starts.count) (take_all c.loop-index.index sections past) (c.loop-index.invariant.1 cs old h)

@@ -1,25 +1,18 @@
-use Rattle.std.proofs.Common.{◌≡◌, ℕ, arith}
-use Rattle.building.proofs.Filling.{holds-in_order, holds_more, start_room, start_full}
+use Rattle.std.proofs.Common.{rules, ◌≡◌, cond, Some, None, ◌∙◌, subst, sym}
+use Rattle.std.specs.Result.{is_ok, result_err}
+use Rattle.base.specs.declared.refusal.Refusal.TheVariants.{StartTableFull}
+use Rattle.base.specs.Rows.{start_rank, start_meets}
+use Rattle.order.specs.Placed.{Settled}
+use Rattle.building.proofs.Filling.{holds_more, start_answer}
 use Rattle.starts.proofs.add_start.Goals as goal
 
-pub returns-in-Ok : goal.returns-in-Ok
-returns-in-Ok c =
-    let rows = c.args.starts.now.rows.now in
-    let count = c.args.starts.now.count in
-    record {
-      refused = λ cs old h. start_room cs old rows count _ c.args.start _ _ h (c.in-Ok.ensures.outcome (holds-in_order cs old rows count h));
-      added = λ cs old h _. holds_more cs old rows count _ c.args.start _ h (c.in-Ok.ensures.outcome (holds-in_order cs old rows count h));
-      lender = c.insert.ensures.lender;
-      long = c.insert.ensures.long;
-    }
+pub returns-clause-refused : goal.returns-clause-refused
+returns-clause-refused c = λ cs old h.
+    let answer : result_err c.map_err.result ≡ cond (is_ok c.insert.result) None (Some (StartTableFull c.args.step)) = search rules in
+    answer ∙ start_answer cs old c.args.starts.now.rows.now c.args.starts.now.count _ c.args.start _ (is_ok c.insert.result) _ h c.insert.ensures.outcome
 
-pub returns-in-Err : goal.returns-in-Err
-returns-in-Err c =
-    let rows = c.args.starts.now.rows.now in
-    let count = c.args.starts.now.count in
-    record {
-      refused = λ cs old h. start_full cs old rows count c.args.start _ _ h (c.in-Err.ensures.outcome (holds-in_order cs old rows count h));
-      added = λ cs old h e. let z : ◌≡◌ {A = ℕ} 0 1 = cc in absurd (omega arith);
-      lender = c.insert.ensures.lender;
-      long = c.insert.ensures.long;
-    }
+pub returns-clause-added : goal.returns-clause-added
+returns-clause-added c = λ cs old h e.
+    let came = sym c.map_err.ensures.variant ∙ e in
+    holds_more cs old c.args.starts.now.rows.now c.args.starts.now.count _ c.args.start _ h
+    (subst (λ b. Settled start_rank start_meets c.args.starts.now.rows.now c.args.starts.now.count c.args.start (cond b (Some c.insert.new.self.count) None) c.insert.new.self.rows.now) came c.insert.ensures.outcome)

@@ -1,17 +1,14 @@
-use Rattle.std.proofs.Common.{◌≡◌, ◌-◌, ◌≤◌, List, [], length, take}
+use Rattle.std.proofs.Common.{◌≤◌, List, [], length, take}
 use Rattle.base.specs.declared.context.KnownStart.{KnownStart}
+use Rattle.table.specs.Slice.{SameSlice}
 use Rattle.building.specs.Starts.{symbol_starts}
 use Rattle.building.specs.Filling.{Holds}
 use Rattle.sections.specs.Used.{used}
 use Rattle.starts.proofs.read_public_symbols.Given as goal
 
-abbrev pub invariant-loop-symbol : goal.invariant-loop-symbol
-invariant-loop-symbol g l =
+abbrev pub invariant-loop-item : goal.invariant-loop-item
+invariant-loop-item g l =
     let symbols = (g.S.ImageSource.image l.source).symbols in
     (l.item ≤ length symbols)
     × ((old : List KnownStart) → Holds [] old l.initial.starts.rows.now l.initial.starts.count → Holds (symbol_starts (used l.sections) (take l.item symbols)) old l.starts.rows.now l.starts.count)
-    × (l.starts.rows.ghost_name ≡ l.initial.starts.rows.ghost_name)
-    × (length l.starts.rows.now ≡ length l.initial.starts.rows.now)
-
-abbrev pub decreases-loop-symbol : goal.decreases-loop-symbol
-decreases-loop-symbol g l = length (g.S.ImageSource.image l.source).symbols - l.item
+    × SameSlice l.initial.starts l.starts

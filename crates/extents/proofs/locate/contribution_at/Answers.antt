@@ -1,16 +1,17 @@
-use Rattle.std.proofs.Common.{sym}
-use Rattle.base.specs.Rows.{no_contribution}
-use Rattle.lookup.proofs.Searching.{contribution_none, contribution_here, contribution_other}
+use Rattle.std.proofs.Common.{sym, ap, ◌∙◌, arith}
+use Rattle.std.specs.Bool.{then_some}
+use Rattle.context.specs.Context.{meaning}
+use Rattle.lookup.proofs.Searching.{contribution_none, contribution_is}
 use Rattle.extents.proofs.locate.contribution_at.Goals as goal
 
-pub returns-then-place-eq0 : goal.returns-then-place-eq0
-returns-then-place-eq0 c ord lie =
-    sym (contribution_none c.args.contributions.now c.args.offset c.position-place.result lie (c.position-place.ensures.place ord) c.if-place-eq0.true)
+pub returns-in_err-place : goal.returns-in_err-place
+returns-in_err-place c =
+    let there = c.args.context.now in
+    let place = c.position.ensures in
+    c.from_residual.ensures ∙ sym (contribution_none (meaning there).contributions c.args.offset c.position.result there.apart_all (rw (← c.used-contributions.ensures) c.position.ensures) (omega (arith, c.in_err-place.ensures)))
 
-pub returns-then-holds : goal.returns-then-holds
-returns-then-holds c ord lie =
-    sym (contribution_here c.args.contributions.now c.args.offset c.position-place.result lie (c.position-place.ensures.place ord) no_contribution c.if-place-eq0.false (sym c.if-holds.ensures))
-
-pub returns-else-holds : goal.returns-else-holds
-returns-else-holds c ord lie =
-    sym (contribution_other c.args.contributions.now c.args.offset c.position-place.result lie (c.position-place.ensures.place ord) no_contribution c.if-place-eq0.false (sym c.if-holds.ensures))
+pub returns : goal.returns
+returns c =
+    let there = c.args.context.now in
+    let x = c.in_ok-candidate.field-0.now in
+    c.then_some.ensures ∙ ap (λ b. then_some b x) c.holds.ensures ∙ sym (contribution_is (meaning there).contributions c.args.offset c.position.result there.apart_all (rw (← c.used-contributions.ensures) c.position.ensures) x c.in_ok-place.ensures.0 (cc (c.in_ok-candidate.ensures.lookup.1, c.in_ok-place.ensures.1)))

@@ -8,6 +8,10 @@ use Rattle.resolver.proofs.answers.answer_all.Given as goal
 
 abbrev pub invariant-loop-k : goal.invariant-loop-k
 invariant-loop-k g l =
-    (l.resolver.provider ≡ l.initial.resolver.provider)
-    × Sound (g.P.ModuleProvider.modules l.initial.resolver.provider) (shelved l.resolver.shelf)
-    × (l.answers ≡ map (λ a. (find_function (g.P.ImageSource.image l.initial.resolver.provider).text (g.P.ModuleProvider.modules l.initial.resolver.provider) (meaning l.context) a empty_shelf).answer) (take l.k l.addresses) ++ drop l.k l.initial.answers)
+    let text = (g.P.ImageSource.image l.fn.provider).text in
+    let modules = g.P.ModuleProvider.modules l.fn.provider in
+    record {
+      provider : l.resolver.provider ≡ l.fn.provider;
+      sound : Sound modules (shelved l.resolver.shelf);
+      answers : l.answers ≡ map (λ a. (find_function text modules (meaning l.context) a empty_shelf).answer) (take l.k l.addresses) ++ drop l.k l.initial.answers;
+    }

@@ -1,25 +1,18 @@
-use Rattle.std.proofs.Common.{◌≡◌, ℕ, arith}
-use Rattle.building.proofs.Filling.{filed_more, block_room, block_full}
+use Rattle.std.proofs.Common.{rules, ◌≡◌, cond, Some, None, ◌∙◌, subst, sym}
+use Rattle.std.specs.Result.{is_ok, result_err}
+use Rattle.base.specs.declared.refusal.Refusal.TheVariants.{ContributionTableFull}
+use Rattle.base.specs.Rows.{contribution_rank, contribution_meets}
+use Rattle.order.specs.Placed.{Settled}
+use Rattle.building.proofs.Filling.{filed_more, block_answer}
 use Rattle.steps.proofs.blocks.close_block.Goals as goal
 
-pub returns-in-Ok : goal.returns-in-Ok
-returns-in-Ok c =
-    let rows = c.args.contributions.now.rows.now in
-    let count = c.args.contributions.now.count in
-    record {
-      refused = λ bs old h. block_room bs old rows count _ c.args.block _ _ h (c.in-Ok.ensures.outcome h.stands.in_order);
-      added = λ bs old h _. filed_more bs old rows count _ c.args.block _ h (c.in-Ok.ensures.outcome h.stands.in_order);
-      lender = c.insert.ensures.lender;
-      long = c.insert.ensures.long;
-    }
+pub returns-clause-refused : goal.returns-clause-refused
+returns-clause-refused c = λ bs old h.
+    let answer : result_err c.map_err.result ≡ cond (is_ok c.insert.result) None (Some ContributionTableFull) = search rules in
+    answer ∙ block_answer bs old c.args.contributions.now.rows.now c.args.contributions.now.count _ c.args.block _ (is_ok c.insert.result) _ h c.insert.ensures.outcome
 
-pub returns-in-Err : goal.returns-in-Err
-returns-in-Err c =
-    let rows = c.args.contributions.now.rows.now in
-    let count = c.args.contributions.now.count in
-    record {
-      refused = λ bs old h. block_full bs old rows count c.args.block _ _ h (c.in-Err.ensures.outcome h.stands.in_order);
-      added = λ bs old h e. let z : ◌≡◌ {A = ℕ} 0 1 = cc in absurd (omega arith);
-      lender = c.insert.ensures.lender;
-      long = c.insert.ensures.long;
-    }
+pub returns-clause-added : goal.returns-clause-added
+returns-clause-added c = λ bs old h e.
+    let came = sym c.map_err.ensures.variant ∙ e in
+    filed_more bs old c.args.contributions.now.rows.now c.args.contributions.now.count _ c.args.block _ h
+    (subst (λ b. Settled contribution_rank contribution_meets c.args.contributions.now.rows.now c.args.contributions.now.count c.args.block (cond b (Some c.insert.new.self.count) None) c.insert.new.self.rows.now) came c.insert.ensures.outcome)

@@ -1,0 +1,8 @@
+-- What no insertion changes in a table. Assumes nothing.
+use Rattle.std.specs.Prelude.{◌≡◌, length}
+use Rattle.order.specs.declared.Row.{Ghosts}
+use Rattle.table.specs.declared.Table.{Table}
+
+-- the same lent slice, as long as before
+abbrev pub SameSlice : {R : Type 0} {g : Ghosts R} → Table R g → Table R g → Type 0
+SameSlice old new = (new.rows.ghost_name ≡ old.rows.ghost_name) × (length new.rows.now ≡ length old.rows.now)
