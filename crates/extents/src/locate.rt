@@ -48,7 +48,8 @@ fn place_in(number: u16, section: Section, address: u32) -> Spot
     }
 }
 
-// The contribution that contains a place. Contributions lie apart, so only the last that starts at or below the place can.
+// The contribution that contains a place. Contributions lie apart, so only the last that starts at or below the place can. The bound of the place
+// goes along from the section, since the row above it lies one place further.
 fn contribution_at(context: &Context<'_>, offset: SectionOffset) -> Option<Contribution>
     requires { offset.offset < 4294967295 }
     ensures { result ≡ contribution_at (meaning context.now).contributions offset }
