@@ -1,11 +1,11 @@
 // The function at a location.
-ghost use Rattle.std.specs.Prelude.{◌≡◌, ◌+◌, ◌^◌, ◌<◌, Some};
+ghost use Rattle.std.specs.Prelude.{◌≡◌, ◌+◌, ◌^◌, ◌<◌, Some, IfSome, IsTrue};
 ghost use Rattle.order.specs.Rank.{InOrder, first, last};
 ghost use Rattle.order.specs.Placed.{Reach};
 ghost use Rattle.base.specs.Rows.{offset_rank, start_rank};
 ghost use Rattle.procedures.specs.Rows.{procedure_rank};
 ghost use Rattle.context.specs.Context.{meaning};
-ghost use Rattle.lookup.specs.Finding.{chosen, reaches, follows, capped as at_most_top, of_procedure, of_start, function_at};
+ghost use Rattle.lookup.specs.Finding.{covers, chosen, reaches, follows, capped as at_most_top, of_procedure, of_start, by_choice};
 
 use crate::holds::holds;
 use crate::name::procedure_name;
@@ -20,8 +20,9 @@ use table::{Sorted, reach};
 // Of the procedures that contain a place, the one that starts last. They may overlap and nest, so each that starts at or
 // below the place is tried.
 #[tactic(auto, using(lookup::proofs::Searching::chosen_reach))]
-fn choose(procedures: &[Procedure], offset: SectionOffset) -> Option<Procedure>
-    ensures { InOrder procedure_rank procedures.now → result ≡ chosen offset procedures.now }
+pub fn choose(procedures: &[Procedure], offset: SectionOffset) -> Option<Procedure>
+    ensures chosen { InOrder procedure_rank procedures.now → result ≡ chosen offset procedures.now }
+    ensures covers { IfSome result (λ p. IsTrue (covers offset p)) }
 {
     let here = Procedure {
         offset,
@@ -113,17 +114,18 @@ fn of_start(starts: &Sorted<'_, KnownStart>, location: &Location) -> Option<Func
     between(location, start, next)
 }
 
-// The function at a location, given the procedures of its contribution's module: the chosen procedure, or else what the
-// known starts tell. The text is the provider's and the context the caller's: a struct of both would be made for this call alone.
-pub fn function_at(
+// The function at a location: the procedure that was chosen for it, or else what the known starts tell. A procedure that contains the
+// place starts at or below it, so that its address fits too. The text is the provider's and the context the caller's: a struct of both
+// would be made for this call alone.
+pub fn by_choice(
     text: &[u8],
     context: &Context<'_>,
     location: &Location,
-    procedures: &[Procedure],
+    choice: Option<Procedure>,
 ) -> Option<Function>
-    ensures { InOrder procedure_rank procedures.now → location.now.base + location.now.offset.offset < 2 ^ 32 → result ≡ function_at text.now (meaning context.now).starts location.now procedures.now }
+    ensures { location.now.base + location.now.offset.offset < 2 ^ 32 → IfSome choice (λ p. IsTrue (covers location.now.offset p)) → result ≡ by_choice text.now (meaning context.now).starts location.now choice }
 {
-    match choose(procedures, location.offset) {
+    match choice {
         Some(procedure) => Some(of_procedure(text, context, location, &procedure)),
         None => of_start(&context.starts.used(), location),
     }

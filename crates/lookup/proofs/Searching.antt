@@ -8,7 +8,7 @@ use Rattle.std.proofs.lemmas.List.Quantifiers.{position-Some}
 use Rattle.std.proofs.lemmas.List.{reverse-append, get_or_default, get_or-drop, length-drop, take-append-drop}
 use Rattle.std.proofs.lemmas.Bool.Decides.{nat_tests}
 use Rattle.std.proofs.lemmas.Bool.{cases_lt, cases_Bool, and_left, and_parts, leb-true, cond-true, cond-false, ltb-false, not-true}
-use Rattle.order.specs.Rank.{before, Pairwise, InOrder, inside, first, last, later}
+use Rattle.order.specs.Rank.{before, Pairwise, InOrder, first, last, later}
 use Rattle.order.specs.Placed.{Place, Reach}
 use Rattle.order.proofs.Rows.{pairwise-at}
 use Rattle.base.specs.Rows.{offset_rank, start_rank, contribution_rank}
@@ -22,7 +22,7 @@ use Rattle.procedures.specs.declared.row.Procedure.{Procedure}
 use Rattle.procedures.specs.declared.function.Location.{Location}
 use Rattle.procedures.specs.declared.function.Function.{Function}
 use Rattle.lookup.specs.Places.{here, spot, holds, contribution_at}
-use Rattle.lookup.specs.Finding.{covers, chosen, reaches, follows, of_procedure, of_start, by_choice, function_at}
+use Rattle.lookup.specs.Finding.{covers, chosen, reaches, follows, of_start}
 use Rattle.lookup.proofs.Choosing.{none-some, first-at, first_never, last-at, last_never, last_passes, last-append}
 
 -- a row that passes, or none
@@ -194,9 +194,3 @@ module _ (l : Location) (fits : l.base + l.offset.offset < 2 ^ 32) where
       let p = and_parts (eqb s.offset.section l.offset.section) (leb s.offset.offset l.offset.offset) (last_passes (reaches l.offset) ss s (sym below)) in
       let low = leb-true s.offset.offset l.offset.offset p.1 in
       h (omega arith) ∙ ap (λ x. of_start l x (Some next)) below ∙ ap (of_start l (last (reaches l.offset) ss)) above
-
-  pub procedure_answers : (text : List ℕ) (ss : List KnownStart) (ps : List Procedure) (p : Procedure) (f : Function) → Some p ≡ chosen l.offset ps → (l.base + p.offset.offset < 2 ^ 32 → f ≡ of_procedure text ss l p) → Some f ≡ function_at text ss l ps
-  procedure_answers text ss ps p f found h =
-      let c = and_parts (eqb p.offset.section l.offset.section) (inside p.offset.offset (p.offset.offset + p.length) l.offset.offset) (last_passes (covers l.offset) ps p (sym found)) in
-      let low = leb-true p.offset.offset l.offset.offset (and_parts (leb p.offset.offset l.offset.offset) (ltb l.offset.offset (p.offset.offset + p.length)) c.1).0 in
-      ap Some (h (omega arith)) ∙ ap (by_choice text ss l) found

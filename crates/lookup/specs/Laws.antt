@@ -1,17 +1,16 @@
 -- What is promised of lookup, in other words. Assumes nothing.
-use Rattle.std.specs.Prelude.{◌≡◌, ℕ, ◌≤◌, Bool, true, ◌&&◌, ◌||◌, ◌⊎◌, ◌↔◌, List, [], ◌∷◌, Some, None, Ok, Option, Result, ◌==◌, nat_le, nat_lt}
+use Rattle.std.specs.Prelude.{◌≡◌, ℕ, ◌≤◌, Bool, true, ◌&&◌, ◌||◌, ◌⊎◌, ◌↔◌, List, Some, None, Ok, ◌==◌, nat_le, nat_lt}
 use Rattle.order.specs.Rank.{Rises, first, at, before}
 use Rattle.base.specs.Rows.{offset_rank}
 use Rattle.base.specs.declared.image.SectionOffset.{SectionOffset}
 use Rattle.base.specs.declared.context.KnownStart.{KnownStart}
-use Rattle.base.specs.declared.refusal.Refusal.{Refusal}
 use Rattle.building.specs.Outcome.{Built, top}
 use Rattle.provider.specs.Modules.{Modules}
 use Rattle.procedures.specs.Rows.{procedure_rank}
 use Rattle.procedures.specs.declared.row.Procedure.{Procedure}
 use Rattle.procedures.specs.declared.function.Location.{Location}
 use Rattle.procedures.specs.declared.function.Function.{Function}
-use Rattle.lookup.specs.Reading.{Shelved, empty_shelf, shelve, in_order}
+use Rattle.lookup.specs.Reading.{Shelved, shelve, in_order}
 use Rattle.lookup.specs.Places.{locate}
 use Rattle.lookup.specs.Finding.{chosen, covers, find_function}
 
@@ -47,27 +46,3 @@ Extents text ms c s =
     locate c a ≡ Some l → locate c b ≡ Some k → l.contribution ≡ k.contribution →
     (find_function text ms c a s).answer ≡ Ok (Some f) → (find_function text ms c b s).answer ≡ Ok (Some g) →
     SameExtent f g ↔ Together c.starts l.offset k.offset (shelve ms l.contribution.«module» s).shelf.procedures
-
--- the calls of a resolver
-pub data Call : Type 0 where
-  look_up : ℕ → Call
-
--- what a call answers
-pub data Answer : Type 0 where
-  function : Result (Option Function) Refusal → Answer
-
-module _ (text : List ℕ) (ms : Modules) (c : Built) where
-  abbrev pub answer : Call → Shelved → Answer
-  answer (look_up a) s = function (find_function text ms c a s).answer
-
-  abbrev pub shelf_left : Call → Shelved → Shelved
-  shelf_left (look_up a) s = (find_function text ms c a s).shelf
-
-  -- the shelf after a succession of calls
-  abbrev pub after : List Call → Shelved → Shelved
-  after [] s = s
-  after (call ∷ calls) s = after calls (shelf_left call s)
-
-  -- after any succession of calls on a fresh resolver, each call answers as on a fresh one
-  abbrev pub History : Type 0
-  History = (calls : List Call) (call : Call) → answer call (after calls empty_shelf) ≡ answer call empty_shelf

@@ -1,1 +1,3 @@
 pub mod Resolving
+pub mod Listing
+pub mod Succession

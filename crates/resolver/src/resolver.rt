@@ -11,7 +11,7 @@ ghost use Rattle.resolver.specs.Resolving.{found, compared};
 
 use base::refusal::Refusal;
 use context::tables::Context;
-use extents::choose::function_at;
+use extents::choose::{by_choice, choose};
 use extents::locate::locate;
 use image::ImageSource;
 use procedures::function::Function;
@@ -50,12 +50,8 @@ impl<P: ModuleProvider> Resolver<P> {
         };
         self.shelf
             .want(&self.provider, location.contribution.module)?;
-        Ok(function_at(
-            self.provider.text(),
-            context,
-            &location,
-            self.shelf.procedures().rows,
-        ))
+        let choice = choose(self.shelf.procedures().rows, location.offset);
+        Ok(by_choice(self.provider.text(), context, &location, choice))
     }
 
     // Whether two addresses have the same extent; none where one of them has no function.

@@ -2,7 +2,7 @@ use Rattle.std.proofs.Common.{◌≡◌, ◌++◌, map, take, drop}
 use Rattle.context.specs.Context.{meaning}
 use Rattle.lookup.specs.Reading.{empty_shelf}
 use Rattle.lookup.specs.Finding.{find_function}
-use Rattle.lookup.proofs.History.{Sound}
+use Rattle.lookup.proofs.Sound.{Sound}
 use Rattle.shelf.specs.Shelf.{shelved}
 use Rattle.resolver.proofs.answers.answer_all.Given as goal
 

@@ -1,5 +1,5 @@
--- What calls leave on a shelf does not change what later calls answer. Assumes nothing.
-use Rattle.std.proofs.Common.{◌≡◌, ℕ, true, false, eqb, List, [], ◌∷◌, Some, None, Ok, Err, Option, Result, sym, refl, ap, ◌∙◌, subst, ⊎_elim}
+-- A shelf that holds what reading its module gives answers as an empty one. Assumes nothing.
+use Rattle.std.proofs.Common.{◌≡◌, ℕ, true, false, eqb, List, Some, None, Ok, Err, Option, Result, sym, refl, ap, ◌∙◌, subst, ⊎_elim}
 use Rattle.std.proofs.lemmas.Bool.{both_ways, cases_Bool, cond-true, cond-false, eqb-true, eq-eqb}
 use Rattle.base.specs.declared.refusal.Refusal.{Refusal}
 use Rattle.building.specs.Outcome.{Built}
@@ -8,8 +8,7 @@ use Rattle.procedures.specs.declared.row.Procedure.{Procedure}
 use Rattle.procedures.specs.declared.function.Location.{Location}
 use Rattle.lookup.specs.Reading.{Shelved, empty_shelf, reading, filled, bears, shelve}
 use Rattle.lookup.specs.Places.{locate}
-use Rattle.lookup.specs.Finding.{answered, find_located}
-use Rattle.lookup.specs.Laws.{Call, look_up, function, answer, shelf_left, after, History}
+use Rattle.lookup.specs.Finding.{answered, find_located, find_function}
 use Rattle.lookup.proofs.Choosing.{some_is, none-some}
 
 -- a shelf with a holder holds what reading that module gives
@@ -72,15 +71,8 @@ module _ (text : List ℕ) (ms : Modules) (c : Built) where
   located_sound None s h = h
   located_sound (Some l) s h = sound_shelved ms l.contribution.«module» s h
 
-  pub sound_answers : (call : Call) (s : Shelved) → Sound ms s → answer text ms c call s ≡ answer text ms c call empty_shelf
-  sound_answers (look_up a) s h = ap function (located_fresh (locate c a) s h)
+  pub function_fresh : (a : ℕ) (s : Shelved) → Sound ms s → (find_function text ms c a s).answer ≡ (find_function text ms c a empty_shelf).answer
+  function_fresh a s h = located_fresh (locate c a) s h
 
-  pub sound_after : (call : Call) (s : Shelved) → Sound ms s → Sound ms (shelf_left text ms c call s)
-  sound_after (look_up a) s h = located_sound (locate c a) s h
-
-  pub sound_afters : (calls : List Call) (s : Shelved) → Sound ms s → Sound ms (after text ms c calls s)
-  sound_afters [] s h = h
-  sound_afters (call ∷ calls) s h = sound_afters calls (shelf_left text ms c call s) (sound_after call s h)
-
-  pub history : History text ms c
-  history calls call = sound_answers call (after text ms c calls empty_shelf) (sound_afters calls empty_shelf (sound_empty ms))
+  pub function_sound : (a : ℕ) (s : Shelved) → Sound ms s → Sound ms (find_function text ms c a s).shelf
+  function_sound a s h = located_sound (locate c a) s h

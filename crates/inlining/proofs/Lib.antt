@@ -1,0 +1,6 @@
+pub mod Choice
+pub mod Stretches
+pub mod Walking
+pub mod Covering
+pub mod Agreeing
+pub mod Depth

@@ -1,0 +1,4 @@
+pub mod Listing
+pub mod Stepping
+pub mod Calls
+pub mod Laws

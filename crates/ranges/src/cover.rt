@@ -1,0 +1,69 @@
+// Which places ranges cover.
+ghost use Rattle.std.specs.Prelude.{◌≡◌, ◌+◌, min};
+ghost use Rattle.std.specs.List.{list_any, filter_map, reduce};
+ghost use Rattle.inlining.specs.Ranges.{over, covered};
+ghost use Rattle.ranges.specs.Uncovered.{uncovered_at, at_next_depth, edge_above};
+
+use frames::range::InlineRange;
+use table::contains;
+
+// Whether a range of some depth contains a place.
+pub(crate) fn is_over(range: &InlineRange, depth: usize, place: u32) -> bool
+    ensures { result ≡ over depth place range.now }
+{
+    range.depth == depth && contains(range, place)
+}
+
+fn at_next_depth(range: &InlineRange, depth: usize) -> bool
+    ensures { result ≡ at_next_depth depth range.now }
+{
+    range.depth.checked_sub(1) == Some(depth)
+}
+
+pub(crate) fn any_at_next_depth(ranges: &[InlineRange], depth: usize) -> bool
+    ensures { result ≡ list_any (at_next_depth depth) ranges.now }
+{
+    ranges.iter().any(|range| at_next_depth(range, depth))
+}
+
+fn is_covered(ranges: &[InlineRange], depth: usize, place: u32) -> bool
+    ensures { result ≡ covered depth place ranges.now }
+{
+    ranges.iter().any(|range| is_over(range, depth, place))
+}
+
+fn is_covered_at_next_depth(ranges: &[InlineRange], depth: usize, place: u32) -> bool
+    ensures { result ≡ covered (depth + 1) place ranges.now }
+{
+    ranges.iter().any(|range| at_next_depth(range, depth) && contains(range, place))
+}
+
+// Whether a place is covered at the next depth, and not at this one.
+pub(crate) fn is_uncovered(ranges: &[InlineRange], depth: usize, place: u32) -> bool
+    ensures { result ≡ uncovered_at depth ranges.now place }
+{
+    is_covered_at_next_depth(ranges, depth, place) && !is_covered(ranges, depth, place)
+}
+
+// From which place above another on a range contains the places, or contains them no more.
+fn edge_above(range: &InlineRange, place: u32) -> Option<u32>
+    ensures { result ≡ edge_above place range.now }
+{
+    if place < range.start {
+        Some(range.start)
+    } else if place < range.end {
+        Some(range.end)
+    } else {
+        None
+    }
+}
+
+// The nearest of these: below it each range contains all places from `place` on, or none.
+pub(crate) fn next_edge(ranges: &[InlineRange], place: u32) -> Option<u32>
+    ensures { result ≡ reduce min (filter_map (edge_above place) ranges.now) }
+{
+    ranges
+        .iter()
+        .filter_map(|range| edge_above(range, place))
+        .min()
+}

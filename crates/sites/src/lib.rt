@@ -1,0 +1,5 @@
+// The walk along a procedure's symbol records, from site to site.
+#![tactic(auto)]
+
+pub mod calls;
+mod walk;

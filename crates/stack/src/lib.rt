@@ -1,0 +1,5 @@
+// The frames of an address.
+#![tactic(auto)]
+
+pub mod find;
+mod stack;
