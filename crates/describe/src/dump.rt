@@ -35,13 +35,15 @@ fn write_image(out: &mut String, image: &ImageTables) -> Result<(), AllocError> 
 fn write_said(out: &mut String, description: &Description) -> Result<(), AllocError> {
     let starts = description.start_rows;
     let contributions = description.contribution_rows;
+    let frames = description.frame_rows;
+    let addresses = description.address_rows;
     writeln!(out, "publics end {}", End(description.symbols_end))?;
     writeln!(
         out,
         "contributions end {}",
         End(description.contributions_end)
     )?;
-    writeln!(out, "tables {starts} {contributions}")
+    writeln!(out, "tables {starts} {contributions} {frames} {addresses}")
 }
 
 fn write_parts(out: &mut String, parts: &PartTables) -> Result<(), AllocError> {

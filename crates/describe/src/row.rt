@@ -140,6 +140,8 @@ impl Row for Question {
     fn write(&self, out: &mut String) -> Result<(), AllocError> {
         match *self {
             Question::Find(address) => writeln!(out, "find {address}"),
+            Question::Frames(address) => writeln!(out, "frames {address}"),
+            Question::List => writeln!(out, "list"),
             Question::Same(first, second) => writeln!(out, "same {first} {second}"),
         }
     }

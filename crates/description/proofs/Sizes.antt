@@ -3,7 +3,7 @@ use Rattle.std.proofs.Common.{◌≡◌, ℕ, ◌^◌, ◌≤◌, List, [], ◌�
 use Rattle.std.specs.List.{AllByRecursion}
 use Rattle.base.specs.declared.image.TextPart.{TextPart}
 use Rattle.description.specs.declared.row.ImageRow.{ImageRow}
-use Rattle.description.specs.declared.row.ImageRow.TheVariants.{Public, StartTable, ContributionTable}
+use Rattle.description.specs.declared.row.ImageRow.TheVariants.{Public, StartTable, ContributionTable, FrameTable, AddressTable}
 use Rattle.description.specs.declared.row.Line.{Line as RowLine}
 use Rattle.description.specs.declared.row.Row.{Row}
 use Rattle.description.specs.declared.row.Row.TheVariants.{Text, Image}
@@ -14,15 +14,17 @@ use Rattle.description.specs.Rows.{FittingImage, Fitting, image_named, named}
 use Rattle.description.proofs.Options.{at_some, at_mapped, at-then}
 
 abbrev pub Roomy : ImageLists → Type 0
-Roomy a = Room a.said.start_rows × Room a.said.contribution_rows
+Roomy a = Room a.said.start_rows × Room a.said.contribution_rows × Room a.said.frame_rows × Room a.said.address_rows
 
 once-room : (o : Option ℕ) (n : ℕ) (p : Option ℕ) → once o n ≡ Some p → n ≤ 2 ^ 24 → Room p
 once-room None n p e h = at_some Room (Some n) p e h
 once-room (Some m) n p e h = absurd cc
 
 image-room : (r : ImageRow) (a b : ImageLists) → image_added r a ≡ Some b → FittingImage r → Roomy a → Roomy b
-image-room (StartTable n) a b e f h = at_mapped Roomy _ _ b e (λ x p. (once-room a.said.start_rows n x p f, h.1))
-image-room (ContributionTable n) a b e f h = at_mapped Roomy _ _ b e (λ x p. (h.0, once-room a.said.contribution_rows n x p f))
+image-room (StartTable n) a b e f h = at_mapped Roomy _ _ b e (λ x p. (once-room a.said.start_rows n x p f, h.1, h.2, h.3))
+image-room (ContributionTable n) a b e f h = at_mapped Roomy _ _ b e (λ x p. (h.0, once-room a.said.contribution_rows n x p f, h.2, h.3))
+image-room (FrameTable n) a b e f h = at_mapped Roomy _ _ b e (λ x p. (h.0, h.1, once-room a.said.frame_rows n x p f, h.3))
+image-room (AddressTable n) a b e f h = at_mapped Roomy _ _ b e (λ x p. (h.0, h.1, h.2, once-room a.said.address_rows n x p f))
 image-room r a b e f h = at_mapped Roomy _ _ b e (λ x p. h)
 
 row_room : (r : Row) (a b : Lists) → row_added r a ≡ Some b → Fitting r → Roomy a.image → Roomy b.image

@@ -21,7 +21,9 @@ sound d s = record {
   contributions_end = refl;
   start_rows = refl;
   contribution_rows = refl;
-  room = said-room s.rows nothing (lists d) s.whole s.fitting (tt, tt);
+  frame_rows = refl;
+  address_rows = refl;
+  room = said-room s.rows nothing (lists d) s.whole s.fitting (tt, tt, tt, tt);
   short = short_lists d s;
   names = λ q. said-names s.rows nothing (lists d) s.whole q nothing-names;
 }

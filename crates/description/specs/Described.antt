@@ -16,6 +16,14 @@ use Rattle.description.specs.Names.{Quoting, Named}
 abbrev pub starts_at_most : ImageTables → ℕ
 starts_at_most t = vec_len t.symbols + vec_len t.contributions + vec_len t.sections
 
+-- each known start and each symbol record may give an address
+abbrev pub addresses_at_most : Draft → ℕ
+addresses_at_most d = starts_at_most d.image.tables + vec_len d.modules.tables.parts.symbols
+
+-- one for each of 32 inlined calls, and one for the function
+abbrev pub most_frames : ℕ
+most_frames = 33
+
 -- a list ends clean, and a table has the size that always suffices, unless something else is said
 abbrev pub described : Draft → Description
 described d = record {
@@ -25,6 +33,8 @@ described d = record {
   contributions_end = unwrap_or d.image.said.contributions_end clean;
   start_rows = unwrap_or d.image.said.start_rows (starts_at_most d.image.tables);
   contribution_rows = unwrap_or d.image.said.contribution_rows (vec_len d.image.tables.contributions);
+  frame_rows = unwrap_or d.image.said.frame_rows most_frames;
+  address_rows = unwrap_or d.image.said.address_rows (addresses_at_most d);
   modules = d.modules.tables;
   hidden = d.hidden;
   questions = d.questions;
@@ -76,7 +86,9 @@ pub record Sound (d : Description) : Type 0 where
   pub contributions_end : d.contributions_end ≡ unwrap_or once.contributions_end clean
   pub start_rows : d.start_rows ≡ unwrap_or once.start_rows (starts_at_most d.image)
   pub contribution_rows : d.contribution_rows ≡ unwrap_or once.contribution_rows (vec_len d.image.contributions)
-  pub room : Room once.start_rows × Room once.contribution_rows
+  pub frame_rows : d.frame_rows ≡ unwrap_or once.frame_rows most_frames
+  pub address_rows : d.address_rows ≡ unwrap_or once.address_rows (starts_at_most d.image + vec_len d.modules.parts.symbols)
+  pub room : Room once.start_rows × Room once.contribution_rows × Room once.frame_rows × Room once.address_rows
   pub short : Short (lists_of d once told)
   -- quoted names lie within the text
   pub names : AllByRecursion Quoting rows → Named (lists_of d once told)

@@ -21,7 +21,7 @@ use Rattle.description.specs.declared.draft.ImageDraft.{ImageDraft}
 use Rattle.description.specs.declared.draft.ModuleDraft.{ModuleDraft}
 use Rattle.description.specs.declared.question.Question.{Question}
 use Rattle.description.specs.declared.row.ImageRow.{ImageRow}
-use Rattle.description.specs.declared.row.ImageRow.TheVariants.{Section as SectionRow, Public, Contribution, PublicsEnd, ContributionsEnd, StartTable, ContributionTable}
+use Rattle.description.specs.declared.row.ImageRow.TheVariants.{Section as SectionRow, Public, Contribution, PublicsEnd, ContributionsEnd, StartTable, ContributionTable, FrameTable, AddressTable}
 use Rattle.description.specs.declared.row.Line.{Line as RowLine}
 use Rattle.description.specs.declared.row.ModulePart.{ModulePart}
 use Rattle.description.specs.declared.row.ModulePart.TheVariants.{Symbol, SymbolsEnd, Extras, File, Lines, Line, Inlined, Range}
@@ -42,7 +42,7 @@ pub record ImageLists : Type 0 where
   pub said : Said
 
 abbrev pub said_nothing : Said
-said_nothing = record { symbols_end = None; contributions_end = None; start_rows = None; contribution_rows = None }
+said_nothing = record { symbols_end = None; contributions_end = None; start_rows = None; contribution_rows = None; frame_rows = None; address_rows = None }
 
 abbrev pub image_nothing : ImageLists
 image_nothing = record { sections = []; symbols = []; contributions = []; said = said_nothing }
@@ -63,16 +63,22 @@ abbrev with_said : ImageLists → Said → ImageLists
 with_said a s = record { sections = a.sections; symbols = a.symbols; contributions = a.contributions; said = s }
 
 abbrev with_publics_end : ImageLists → Option Ending → ImageLists
-with_publics_end a x = with_said a (record { symbols_end = x; contributions_end = a.said.contributions_end; start_rows = a.said.start_rows; contribution_rows = a.said.contribution_rows })
+with_publics_end a x = with_said a (record { symbols_end = x; contributions_end = a.said.contributions_end; start_rows = a.said.start_rows; contribution_rows = a.said.contribution_rows; frame_rows = a.said.frame_rows; address_rows = a.said.address_rows })
 
 abbrev with_contributions_end : ImageLists → Option Ending → ImageLists
-with_contributions_end a x = with_said a (record { symbols_end = a.said.symbols_end; contributions_end = x; start_rows = a.said.start_rows; contribution_rows = a.said.contribution_rows })
+with_contributions_end a x = with_said a (record { symbols_end = a.said.symbols_end; contributions_end = x; start_rows = a.said.start_rows; contribution_rows = a.said.contribution_rows; frame_rows = a.said.frame_rows; address_rows = a.said.address_rows })
 
 abbrev with_start_rows : ImageLists → Option ℕ → ImageLists
-with_start_rows a x = with_said a (record { symbols_end = a.said.symbols_end; contributions_end = a.said.contributions_end; start_rows = x; contribution_rows = a.said.contribution_rows })
+with_start_rows a x = with_said a (record { symbols_end = a.said.symbols_end; contributions_end = a.said.contributions_end; start_rows = x; contribution_rows = a.said.contribution_rows; frame_rows = a.said.frame_rows; address_rows = a.said.address_rows })
 
 abbrev with_contribution_rows : ImageLists → Option ℕ → ImageLists
-with_contribution_rows a x = with_said a (record { symbols_end = a.said.symbols_end; contributions_end = a.said.contributions_end; start_rows = a.said.start_rows; contribution_rows = x })
+with_contribution_rows a x = with_said a (record { symbols_end = a.said.symbols_end; contributions_end = a.said.contributions_end; start_rows = a.said.start_rows; contribution_rows = x; frame_rows = a.said.frame_rows; address_rows = a.said.address_rows })
+
+abbrev with_frame_rows : ImageLists → Option ℕ → ImageLists
+with_frame_rows a x = with_said a (record { symbols_end = a.said.symbols_end; contributions_end = a.said.contributions_end; start_rows = a.said.start_rows; contribution_rows = a.said.contribution_rows; frame_rows = x; address_rows = a.said.address_rows })
+
+abbrev with_address_rows : ImageLists → Option ℕ → ImageLists
+with_address_rows a x = with_said a (record { symbols_end = a.said.symbols_end; contributions_end = a.said.contributions_end; start_rows = a.said.start_rows; contribution_rows = a.said.contribution_rows; frame_rows = a.said.frame_rows; address_rows = x })
 
 abbrev pub image_added : ImageRow → ImageLists → Option ImageLists
 image_added (SectionRow s) a = option_map (with_sections a) (pushed a.sections s)
@@ -82,6 +88,8 @@ image_added (PublicsEnd e) a = option_map (with_publics_end a) (once a.said.symb
 image_added (ContributionsEnd e) a = option_map (with_contributions_end a) (once a.said.contributions_end e)
 image_added (StartTable n) a = option_map (with_start_rows a) (once a.said.start_rows n)
 image_added (ContributionTable n) a = option_map (with_contribution_rows a) (once a.said.contribution_rows n)
+image_added (FrameTable n) a = option_map (with_frame_rows a) (once a.said.frame_rows n)
+image_added (AddressTable n) a = option_map (with_address_rows a) (once a.said.address_rows n)
 
 -- lists of rows: a list names its part of the rows
 pub record Parted (L R : Type 0) : Type 0 where

@@ -6,7 +6,7 @@ use Rattle.provider.specs.declared.symbols.Symbol.{Symbol}
 use Rattle.provider.specs.declared.symbols.Symbol.TheVariants.{Procedure, Thunk}
 use Rattle.words.specs.Numbers.{number_of}
 use Rattle.description.specs.declared.row.ImageRow.{ImageRow}
-use Rattle.description.specs.declared.row.ImageRow.TheVariants.{Public, StartTable, ContributionTable}
+use Rattle.description.specs.declared.row.ImageRow.TheVariants.{Public, StartTable, ContributionTable, FrameTable, AddressTable}
 use Rattle.description.specs.declared.row.ModulePart.{ModulePart}
 use Rattle.description.specs.declared.row.ModulePart.TheVariants.{Symbol as SymbolPart, File}
 use Rattle.description.specs.declared.row.Row.{Row}
@@ -24,6 +24,8 @@ bounded word most = at_most most (result_ok (number_of word))
 abbrev pub FittingImage : ImageRow → Type 0
 FittingImage (StartTable n) = n ≤ 2 ^ 24
 FittingImage (ContributionTable n) = n ≤ 2 ^ 24
+FittingImage (FrameTable n) = n ≤ 2 ^ 24
+FittingImage (AddressTable n) = n ≤ 2 ^ 24
 FittingImage r = Unit {0}
 
 abbrev pub Fitting : Row → Type 0

@@ -69,6 +69,16 @@ impl ImageDraft {
                 rows,
                 Mistake::TableTwice,
             ),
+            ImageRow::FrameTable(rows) => set_once(
+                &mut self.said.frame_rows,
+                rows,
+                Mistake::TableTwice,
+            ),
+            ImageRow::AddressTable(rows) => set_once(
+                &mut self.said.address_rows,
+                rows,
+                Mistake::TableTwice,
+            ),
         }
     }
 }

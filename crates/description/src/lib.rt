@@ -4,7 +4,7 @@
 ghost use Rattle.std.specs.Prelude.{◌≡◌, IfOk, OnOk};
 ghost use Rattle.std.specs.Option.{unwrap_or};
 ghost use Rattle.description.specs.Drafts.{nothing, lists, Says};
-ghost use Rattle.description.specs.Described.{described, starts_at_most, Sound};
+ghost use Rattle.description.specs.Described.{described, starts_at_most, addresses_at_most, Sound};
 
 mod add;
 mod draft;
@@ -20,6 +20,7 @@ mod word;
 
 use base::image::Ending;
 use draft::{Draft, ImageDraft, ModuleDraft};
+use frames::frame::MOST_FRAMES;
 use mistake::{AddError, ReadError};
 use question::Question;
 use read::read_row;
@@ -37,6 +38,8 @@ pub struct Description {
     pub contributions_end: Ending,
     pub start_rows: usize,
     pub contribution_rows: usize,
+    pub frame_rows: usize,
+    pub address_rows: usize,
     pub modules: ModuleTables,
     pub hidden: Vec<u16>,
     pub questions: Vec<Question>,
@@ -100,6 +103,7 @@ fn finish(draft: Draft) -> Description
     let said = draft.image.said;
     let starts = most_starts(&draft.image.tables);
     let contributions = draft.image.tables.contributions.len();
+    let addresses = most_addresses(&draft);
     Description {
         text: draft.text,
         image: draft.image.tables,
@@ -107,6 +111,8 @@ fn finish(draft: Draft) -> Description
         contributions_end: said.contributions_end.unwrap_or(Ok(())),
         start_rows: rows_or(said.start_rows, starts),
         contribution_rows: rows_or(said.contribution_rows, contributions),
+        frame_rows: rows_or(said.frame_rows, MOST_FRAMES),
+        address_rows: rows_or(said.address_rows, addresses),
         modules: draft.modules.tables,
         hidden: draft.hidden,
         questions: draft.questions,
@@ -118,6 +124,13 @@ fn most_starts(image: &ImageTables) -> usize
     ensures { result ≡ starts_at_most image.now }
 {
     image.symbols.len() + image.contributions.len() + image.sections.len()
+}
+
+// Each known start and each symbol record may give an address.
+fn most_addresses(draft: &Draft) -> usize
+    ensures { result ≡ addresses_at_most draft.now }
+{
+    most_starts(&draft.image.tables) + draft.modules.tables.parts.symbols.len()
 }
 
 fn rows_or(said: Option<u32>, enough: usize) -> usize

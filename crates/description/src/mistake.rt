@@ -64,7 +64,7 @@ impl fmt::Display for Mistake {
             Mistake::NotAFault => "after its start a list has nothing or `fault CODE`",
             Mistake::NotExtras => "extras are `readable` or `fault CODE`",
             Mistake::NotAState => "a module is present, absent or broken",
-            Mistake::NotATable => "a table is starts or contributions",
+            Mistake::NotATable => "a table is starts, contributions, frames or addresses",
             Mistake::TableTooLarge => "a table has at most 16777216 rows",
             Mistake::ThunkTooLong => "the length of a thunk is at most 65535",
             Mistake::NoModule => "no module stands above this row",

@@ -43,6 +43,8 @@ impl Fields<'_> {
             b"module" => Ok(Row::Module(self.module_state()?)),
             b"hide" => Ok(Row::Hide(self.small(Mistake::ModuleTooLarge)?)),
             b"find" => Ok(Row::Ask(Question::Find(self.number()?))),
+            b"frames" => Ok(Row::Ask(Question::Frames(self.number()?))),
+            b"list" => Ok(Row::Ask(Question::List)),
             b"same" => Ok(Row::Ask(Question::Same(self.number()?, self.number()?))),
             _ => match self.image_row(word)? {
                 Some(row) => Ok(Row::Image(row)),
@@ -127,6 +129,8 @@ impl Fields<'_> {
         match self.plain()? {
             b"starts" => Ok(ImageRow::StartTable(self.table_rows()?)),
             b"contributions" => Ok(ImageRow::ContributionTable(self.table_rows()?)),
+            b"frames" => Ok(ImageRow::FrameTable(self.table_rows()?)),
+            b"addresses" => Ok(ImageRow::AddressTable(self.table_rows()?)),
             _ => Err(Mistake::NotATable),
         }
     }

@@ -16,6 +16,8 @@ pub enum ImageRow {
     ContributionsEnd(Ending),
     StartTable(u32),
     ContributionTable(u32),
+    FrameTable(u32),
+    AddressTable(u32),
 }
 
 // What belongs to the module whose row came last.

@@ -8,6 +8,8 @@ pub struct Said {
     pub contributions_end: Option<Ending>,
     pub start_rows: Option<u32>,
     pub contribution_rows: Option<u32>,
+    pub frame_rows: Option<u32>,
+    pub address_rows: Option<u32>,
 }
 
 // Of the newest module: whether its endings were said, and whether a list of sites or of lines was begun.

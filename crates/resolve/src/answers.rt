@@ -1,31 +1,31 @@
 // What is printed for an image: its context, and the answers to what is asked of it.
-ghost use Rattle.std.specs.Prelude.{◌≡◌};
-ghost use Rattle.rows.specs.Tables.{meaning_of};
-
+use crate::check::write_check;
 use crate::failure::Failure;
-use crate::options::Options;
-use crate::print::{write_context, write_quoted};
+use crate::opening::open;
+use crate::options::{Form, Options};
+use crate::parts::write_refusal;
+use crate::print::write_context;
+use crate::reply::{write_call, write_reply};
+use crate::stack_lines::write_stack;
+use addresses::Address;
 use base::context::{Contribution, KnownStart};
 use base::refusal::Refusal;
 use context::build::build;
 use context::tables::{Context, Tables};
 use description::Description;
 use description::question::Question;
+use frames::frame::Frame;
 use hiding::Hiding;
-use modules::tables::ModuleRows;
 use procedures::function::Function;
-use procedures::name::Name;
 use provider::ModuleProvider;
 use resolver::answers::answer_all;
+use resolver::calls::{Answer, Call, CallTables};
 use resolver::resolver::Resolver;
 use row_provider::RowProvider;
-use rows::tables::ImageRows;
 use std::alloc::{AllocError, Global};
 use std::fmt::Write;
 
-type Answer = Result<Option<Function>, Refusal>;
-
-// Why an image is refused, or its context and then the answers: first what the description asks, then what the command line does.
+// Why an image is refused, or its context and then the answers.
 pub fn write_image(
     heap: Global,
     out: &mut String,
@@ -39,69 +39,117 @@ pub fn write_image(
         contributions: contributions.as_mut_slice(),
     };
     let mut context = Context::empty();
-    let provider = match open(description, &mut tables, &mut context) {
+    let provider = match open_built(description, &mut tables, &mut context) {
         Ok(provider) => provider,
         Err(refusal) => return Ok(write_refusal(out, &refusal)?),
     };
     if !options.only_answers {
         write_context(out, description.text.as_slice(), &context)?;
     }
-    let addresses = options.addresses.as_slice();
-    let mut answers = vec![in heap; Ok(None); addresses.len()]?;
-    let mut resolver = answer_all(provider, &context, addresses, answers.as_mut_slice());
-    for question in description.questions.iter() {
-        write_answer(out, &mut resolver, &context, *question)?;
-    }
-    for (address, answer) in addresses.iter().zip(answers.iter()) {
-        write_found(out, &resolver, *address, *answer)?;
-    }
-    for (first, second) in options.pairs.iter() {
-        let question = Question::Same(*first, *second);
-        write_answer(out, &mut resolver, &context, question)?;
-    }
-    Ok(())
+    write_answers(heap, out, provider, &context, description, options)
 }
 
 // The provider of an image, from which its context is built.
-fn open<'a, 't>(
+fn open_built<'a, 't>(
     description: &'a Description,
     tables: &mut Tables<'t>,
     context: &mut Context<'t>,
 ) -> Result<Hiding<RowProvider<'a>>, Refusal> {
-    let mut provider = RowProvider::empty();
-    RowProvider::open(rows_of(description), modules_of(description), &mut provider)?;
-    let mut layer = Hiding::over(provider);
-    for module in description.hidden.iter() {
-        layer.hide(*module)?;
-    }
-    build(&layer, tables, context)?;
-    Ok(layer)
+    let provider = open(description)?;
+    build(&provider, tables, context)?;
+    Ok(provider)
 }
 
-fn rows_of(description: &Description) -> ImageRows<'_>
-    ensures { meaning_of result ≡ record { text = description.now.text.items; sections = description.now.image.sections.items; symbols = description.now.image.symbols.items; symbols_end = description.now.symbols_end; contributions = description.now.image.contributions.items; contributions_end = description.now.contributions_end } }
-{
-    ImageRows {
-        text: description.text.as_slice(),
-        sections: description.image.sections.as_slice(),
-        symbols: description.image.symbols.as_slice(),
-        symbols_end: description.symbols_end,
-        contributions: description.image.contributions.as_slice(),
-        contributions_end: description.contributions_end,
+// First what the description asks, then what the command line does.
+fn write_answers<P: ModuleProvider + Drop>(
+    heap: Global,
+    out: &mut String,
+    provider: P,
+    context: &Context<'_>,
+    description: &Description,
+    options: &Options,
+) -> Result<(), Failure> {
+    let addresses = options.addresses.as_slice();
+    let of_functions = match options.form {
+        Form::Function => addresses,
+        Form::Frames | Form::Stack => &[],
+    };
+    let mut found = vec![in heap; Ok(None); of_functions.len()]?;
+    let mut resolver = answer_all(provider, context, of_functions, found.as_mut_slice());
+    let mut frames = vec![in heap; Frame::empty(); description.frame_rows]?;
+    let mut listed = vec![in heap; Address::default(); description.address_rows]?;
+    let mut tables = CallTables {
+        frames: frames.as_mut_slice(),
+        addresses: listed.as_mut_slice(),
+    };
+    for question in description.questions.iter() {
+        write_answer(out, &mut resolver, context, *question, &mut tables)?;
     }
+    write_addresses(
+        out,
+        &mut resolver,
+        context,
+        &mut tables,
+        options,
+        found.as_slice(),
+    )?;
+    for (first, second) in options.pairs.iter() {
+        write_same(out, &mut resolver, context, *first, *second)?;
+    }
+    if options.list {
+        write_call(out, &mut resolver, context, Call::Functions, &mut tables)?;
+    }
+    if options.check {
+        let asked = asked_addresses(heap, description, addresses)?;
+        write_check(
+            heap,
+            out,
+            &mut resolver,
+            context,
+            &mut tables,
+            description,
+            asked.as_slice(),
+        )?;
+    }
+    Ok(())
 }
 
-fn modules_of(description: &Description) -> ModuleRows<'_> {
-    let parts = &description.modules.parts;
-    ModuleRows {
-        modules: description.modules.modules.as_slice(),
-        symbols: parts.symbols.as_slice(),
-        site_lists: parts.sites.lists.as_slice(),
-        site_rows: parts.sites.rows.as_slice(),
-        line_lists: parts.lines.lists.as_slice(),
-        line_rows: parts.lines.rows.as_slice(),
-        files: parts.files.as_slice(),
+// The addresses of the command line, in the form that it wants. Those in the form of functions have been looked up.
+fn write_addresses<P: ModuleProvider>(
+    out: &mut String,
+    resolver: &mut Resolver<P>,
+    context: &Context<'_>,
+    tables: &mut CallTables<'_>,
+    options: &Options,
+    found: &[Result<Option<Function>, Refusal>],
+) -> Result<(), AllocError> {
+    let addresses = options.addresses.as_slice();
+    match options.form {
+        Form::Function => {
+            for (address, found) in addresses.iter().zip(found.iter()) {
+                let call = Call::FindFunction(*address);
+                write_reply(
+                    out,
+                    resolver,
+                    context,
+                    call,
+                    Answer::Function(*found),
+                    tables,
+                )?;
+            }
+        }
+        Form::Frames => {
+            for address in addresses {
+                write_call(out, resolver, context, Call::FindFrames(*address), tables)?;
+            }
+        }
+        Form::Stack => {
+            for address in addresses {
+                write_stack(out, resolver, context, tables.frames, *address)?;
+            }
+        }
     }
+    Ok(())
 }
 
 fn write_answer<P: ModuleProvider>(
@@ -109,63 +157,30 @@ fn write_answer<P: ModuleProvider>(
     resolver: &mut Resolver<P>,
     context: &Context<'_>,
     question: Question,
+    tables: &mut CallTables<'_>,
 ) -> Result<(), AllocError> {
     match question {
         Question::Find(address) => {
-            let answer = resolver.find_function(context, address);
-            write_found(out, resolver, address, answer)
+            write_call(out, resolver, context, Call::FindFunction(address), tables)
         }
-        Question::Same(first, second) => {
-            write!(out, "same {first:#x} {second:#x} ")?;
-            write_same(out, resolver.same_function(context, first, second))
+        Question::Frames(address) => {
+            write_call(out, resolver, context, Call::FindFrames(address), tables)
         }
-    }
-}
-
-fn write_found<P: ModuleProvider>(
-    out: &mut String,
-    resolver: &Resolver<P>,
-    address: u32,
-    answer: Answer,
-) -> Result<(), AllocError> {
-    write!(out, "{address:#x} ")?;
-    match answer {
-        Ok(Some(function)) => write_function(out, function, resolver.name(function.name)),
-        Ok(None) => out.push_str("none\n"),
-        Err(refusal) => write_refusal(out, &refusal),
-    }
-}
-
-// An end that lies above the greatest address is none.
-fn write_function(out: &mut String, function: Function, name: Name<'_>) -> Result<(), AllocError> {
-    write!(out, "function {:#x} ", function.start_rva)?;
-    match function.end_rva {
-        Some(end) => write!(out, "{end:#x} ")?,
-        None => out.push_str("- ")?,
-    }
-    write_name(out, name)?;
-    out.push_str("\n")
-}
-
-fn write_name(out: &mut String, name: Name<'_>) -> Result<(), AllocError> {
-    match name {
-        Name::None => out.push_str("unnamed"),
-        Name::Raw(bytes) => {
-            out.push_str("raw ")?;
-            write_quoted(out, bytes)
-        }
-        Name::Typed(bytes, module, number) => {
-            out.push_str("typed ")?;
-            write_quoted(out, bytes)?;
-            write!(out, " module {module} type {number}")
-        }
-        Name::Id(module, inlinee) => write!(out, "inlinee {inlinee} module {module}"),
+        Question::List => write_call(out, resolver, context, Call::Functions, tables),
+        Question::Same(first, second) => write_same(out, resolver, context, first, second),
     }
 }
 
 // Where one of the two has no function, nothing is known.
-fn write_same(out: &mut String, answer: Result<Option<bool>, Refusal>) -> Result<(), AllocError> {
-    match answer {
+fn write_same<P: ModuleProvider>(
+    out: &mut String,
+    resolver: &mut Resolver<P>,
+    context: &Context<'_>,
+    first: u32,
+    second: u32,
+) -> Result<(), AllocError> {
+    write!(out, "same {first:#x} {second:#x} ")?;
+    match resolver.same_function(context, first, second) {
         Ok(Some(true)) => out.push_str("yes\n"),
         Ok(Some(false)) => out.push_str("no\n"),
         Ok(None) => out.push_str("unknown\n"),
@@ -173,6 +188,20 @@ fn write_same(out: &mut String, answer: Result<Option<bool>, Refusal>) -> Result
     }
 }
 
-fn write_refusal(out: &mut String, refusal: &Refusal) -> Result<(), AllocError> {
-    writeln!(out, "refused {}: {refusal}", refusal.number())
+// The addresses of the rows `find` and `frames`, and then those of the command line.
+fn asked_addresses(
+    heap: Global,
+    description: &Description,
+    addresses: &[u32],
+) -> Result<Vec<u32>, AllocError> {
+    let mut asked = Vec::new(heap);
+    for question in description.questions.iter() {
+        if let Question::Find(address) | Question::Frames(address) = *question {
+            asked.push(address)?;
+        }
+    }
+    for address in addresses {
+        asked.push(*address)?;
+    }
+    Ok(asked)
 }

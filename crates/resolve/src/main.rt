@@ -1,13 +1,21 @@
 // Reads the descriptions of images from files, builds the context of each image, prints what it holds or why it is refused, and answers which
-// function an address lies in. Nothing is printed unless the command line, the files of addresses and the descriptions are all good.
+// function an address lies in, what its frames are, and which functions there are. Nothing is printed unless the command line, the files of
+// addresses and the descriptions are all good.
 #![tactic(auto)]
 
-mod addresses;
 mod answers;
+mod check;
 mod failure;
+mod files;
+mod frame_lines;
 mod input;
+mod list;
+mod opening;
 mod options;
+mod parts;
 mod print;
+mod reply;
+mod stack_lines;
 
 use answers::write_image;
 use description::read_description;

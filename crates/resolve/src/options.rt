@@ -2,19 +2,35 @@
 ghost use Rattle.std.specs.Prelude.{◌≤◌};
 ghost use Rattle.std.specs.Vec.Iter.{into_iter_len};
 
-use crate::addresses::read_addresses;
 use crate::failure::{Failure, Flaw, wrong};
+use crate::files::read_addresses;
 use crate::input::Input;
 use std::alloc::Global;
 use std::env;
 use std::env::Args;
 use words::number::number;
 
+// In which form addresses are answered.
+#[derive(Clone, Copy)]
+pub enum Form {
+    // which function an address lies in
+    Function,
+    // its frames, as the rows of a description are answered
+    Frames,
+    // its frames, as other symbolizers write them
+    Stack,
+}
+
 #[derive(Drop)]
 pub struct Options {
     pub paths: Vec<String>,
     pub addresses: Vec<u32>,
+    pub form: Form,
     pub pairs: Vec<(u32, u32)>,
+    // the list of functions is answered too
+    pub list: bool,
+    // the answers are compared with those of fresh resolvers
+    pub check: bool,
     // what a context holds is not printed
     pub only_answers: bool,
 }
@@ -25,7 +41,10 @@ pub fn read_options(rt: &HostRuntime, input: &mut Input) -> Result<Options, Fail
     let mut options = Options {
         paths: Vec::new(heap),
         addresses: Vec::new(heap),
+        form: Form::Function,
         pairs: Vec::new(heap),
+        list: false,
+        check: false,
         only_answers: false,
     };
     let mut args = env::args(rt).map_err(|error| wrong(heap, "resolve", error))?;
@@ -67,6 +86,10 @@ impl Options {
                 let second = address_after(heap, option, rest)?;
                 self.pairs.push((first, second))?;
             }
+            "--frames" => self.form = Form::Frames,
+            "--stack" => self.form = Form::Stack,
+            "--list" => self.list = true,
+            "--check" => self.check = true,
             "--answers" => self.only_answers = true,
             option if option.starts_with("--") => {
                 return Err(wrong_word(heap, option, Flaw::UnknownOption));

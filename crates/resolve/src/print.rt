@@ -1,8 +1,8 @@
 // What a context holds, line by line.
+use crate::parts::write_quoted;
 use base::context::{Contribution, KnownStart};
 use base::image::{Section, SectionOffset};
 use context::tables::Context;
-use printing::push_escaped;
 use procedures::name::part_of;
 use std::alloc::AllocError;
 use std::fmt::Write;
@@ -49,10 +49,4 @@ fn write_start(out: &mut String, text: &[u8], start: KnownStart) -> Result<(), A
         write_quoted(out, bytes)?;
     }
     out.push_str("\n")
-}
-
-pub fn write_quoted(out: &mut String, bytes: &[u8]) -> Result<(), AllocError> {
-    out.push_str("\"")?;
-    push_escaped(out, bytes)?;
-    out.push_str("\"")
 }
