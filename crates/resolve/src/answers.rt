@@ -18,12 +18,12 @@ use frames::frame::Frame;
 use hiding::Hiding;
 use procedures::function::Function;
 use provider::ModuleProvider;
-use resolver::answers::answer_all;
-use resolver::calls::{Answer, Call, CallTables};
 use resolver::resolver::Resolver;
 use row_provider::RowProvider;
 use std::alloc::{AllocError, Global};
 use std::fmt::Write;
+use succession::answers::answer_all;
+use succession::calls::{Answer, Call, CallTables};
 
 // Why an image is refused, or its context and then the answers.
 pub fn write_image(

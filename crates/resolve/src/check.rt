@@ -9,10 +9,10 @@ use context::tables::Context;
 use description::Description;
 use frames::frame::Frame;
 use provider::ModuleProvider;
-use resolver::calls::{Call, CallTables, answer_after};
 use resolver::resolver::Resolver;
 use std::alloc::{AllocError, Global};
 use std::fmt::Write;
+use succession::calls::{Call, CallTables, answer_after};
 
 // What fresh resolvers are opened on, one after another, and the rows of their tables. These are not the tables of the resolver at hand: a row
 // that a call leaves out is not found there from another call.

@@ -6,10 +6,10 @@ use frames::frame::{Frame, FrameFile, FunctionFrames};
 use image::ImageSource;
 use procedures::name::part_of;
 use provider::ModuleProvider;
-use resolver::calls::Call;
 use resolver::resolver::Resolver;
 use std::alloc::AllocError;
 use std::fmt::Write;
+use succession::calls::Call;
 
 pub fn write_frames<P: ModuleProvider>(
     out: &mut String,

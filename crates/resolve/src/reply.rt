@@ -6,10 +6,10 @@ use base::refusal::Refusal;
 use context::tables::Context;
 use procedures::function::Function;
 use provider::ModuleProvider;
-use resolver::calls::{Answer, Call, CallTables};
 use resolver::resolver::Resolver;
 use std::alloc::AllocError;
 use std::fmt::Write;
+use succession::calls::{Answer, Call, CallTables};
 
 // Makes a call, and writes its answer.
 pub fn write_call<P: ModuleProvider>(
@@ -19,7 +19,7 @@ pub fn write_call<P: ModuleProvider>(
     call: Call,
     tables: &mut CallTables<'_>,
 ) -> Result<(), AllocError> {
-    let answer = resolver.answer(context, call, tables);
+    let answer = call.answer(resolver, context, tables);
     write_reply(out, resolver, context, call, answer, tables)
 }
 

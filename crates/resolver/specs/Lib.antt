@@ -1,3 +1,2 @@
 pub mod Resolving
 pub mod Listing
-pub mod Succession

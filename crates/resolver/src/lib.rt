@@ -1,8 +1,6 @@
 // The resolver: which function an address belongs to, and which functions are known.
 #![tactic(auto)]
 
-pub mod answers;
-pub mod calls;
 pub mod cursor;
 pub mod find_frames;
 pub mod list;

@@ -6,11 +6,11 @@ use Rattle.lookup.specs.Reading.{Shelved}
 use Rattle.frames.specs.declared.frame.Frame.{Frame}
 use Rattle.addresses.specs.declared.Address.{Address}
 use Rattle.listing.specs.Calls.{Call, look_up, frames, list, Answer, function, framed, listed, answer, shelf_left}
-use Rattle.resolver.specs.declared.calls.Call.{Call as Question}
-use Rattle.resolver.specs.declared.calls.Call.TheVariants.{FindFunction, FindFrames, Functions}
-use Rattle.resolver.specs.declared.calls.Answer.{Answer as Reply}
-use Rattle.resolver.specs.declared.calls.Answer.TheVariants.{Function as FunctionReply, Frames as FramesReply, Functions as FunctionsReply}
-use Rattle.resolver.specs.declared.calls.CallTables.{CallTables}
+use Rattle.succession.specs.declared.calls.Call.{Call as Question}
+use Rattle.succession.specs.declared.calls.Call.TheVariants.{FindFunction, FindFrames, Functions}
+use Rattle.succession.specs.declared.calls.Answer.{Answer as Reply}
+use Rattle.succession.specs.declared.calls.Answer.TheVariants.{Function as FunctionReply, Frames as FramesReply, Functions as FunctionsReply}
+use Rattle.succession.specs.declared.calls.CallTables.{CallTables}
 
 -- the rows of the two tables
 pub record Rows : Type 0 where

@@ -4,7 +4,7 @@ use Rattle.lookup.specs.Reading.{empty_shelf}
 use Rattle.lookup.specs.Finding.{find_function}
 use Rattle.lookup.proofs.Sound.{Sound}
 use Rattle.shelf.specs.Shelf.{shelved}
-use Rattle.resolver.proofs.answers.answer_all.Given as goal
+use Rattle.succession.proofs.answers.answer_all.Given as goal
 
 abbrev pub invariant-loop-k : goal.invariant-loop-k
 invariant-loop-k g l =

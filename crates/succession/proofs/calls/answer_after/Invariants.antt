@@ -3,8 +3,8 @@ use Rattle.context.specs.Context.{meaning}
 use Rattle.shelf.specs.Shelf.{shelved}
 use Rattle.lookup.specs.Reading.{empty_shelf}
 use Rattle.lookup.proofs.Sound.{Sound}
-use Rattle.resolver.specs.Succession.{rows_of, rows_after}
-use Rattle.resolver.proofs.calls.answer_after.Given as goal
+use Rattle.succession.specs.Succession.{rows_of, rows_after}
+use Rattle.succession.proofs.calls.answer_after.Given as goal
 
 abbrev pub invariant-loop-call : goal.invariant-loop-call
 invariant-loop-call g l =

@@ -6,7 +6,7 @@ use Rattle.lookup.proofs.Sound.{Sound, function_fresh, function_sound}
 use Rattle.lookup.proofs.Reading.{firsts_in_order}
 use Rattle.lookup.proofs.Resolving.{map_more}
 use Rattle.shelf.specs.Shelf.{shelved}
-use Rattle.resolver.proofs.answers.answer_all.Goals as goal
+use Rattle.succession.proofs.answers.answer_all.Goals as goal
 
 pub returns-clause-firsts : goal.returns-clause-firsts
 returns-clause-firsts g c = firsts_in_order

@@ -6,9 +6,9 @@ use Rattle.lookup.specs.Reading.{empty_shelf}
 use Rattle.lookup.proofs.Sound.{Sound}
 use Rattle.listing.specs.Calls.{answer, shelf_left}
 use Rattle.listing.proofs.History.{sound_answers, sound_after, history}
-use Rattle.resolver.specs.declared.calls.Call.TheVariants.{FindFunction}
-use Rattle.resolver.specs.Succession.{rows_of, given, left, rows_after}
-use Rattle.resolver.proofs.calls.answer_after.Goals as goal
+use Rattle.succession.specs.declared.calls.Call.TheVariants.{FindFunction}
+use Rattle.succession.specs.Succession.{rows_of, given, left, rows_after}
+use Rattle.succession.proofs.calls.answer_after.Goals as goal
 
 pub loop-call-preserved : goal.loop-call-preserved
 loop-call-preserved g c =
@@ -25,7 +25,7 @@ loop-call-preserved g c =
     let asked = given call t in
     let head : drop k calls ≡ call ∷ drop (k + 1) calls = rw add-one (drop-cons calls k (FindFunction 0) c.loop-call-test.true) in
     let tables : rows_of c.answer-answer.new.tables ≡ left (answer text modules there asked s) t = c.answer-answer.ensures.tables ∙ ap (λ q. left (answer (g.P.ImageSource.image q).text (g.P.ModuleProvider.modules q) there asked s) t) same in
-    let shelf : shelved c.answer-answer.new.self.shelf ≡ shelf_left text modules there asked s = c.answer-answer.ensures.shelf ∙ ap (λ q. shelf_left (g.P.ImageSource.image q).text (g.P.ModuleProvider.modules q) there asked s) same in
+    let shelf : shelved c.answer-answer.new.resolver.shelf ≡ shelf_left text modules there asked s = c.answer-answer.ensures.shelf ∙ ap (λ q. shelf_left (g.P.ImageSource.image q).text (g.P.ModuleProvider.modules q) there asked s) same in
     record {
       few = omega (arith, c.loop-call-test.true);
       provider = c.answer-answer.ensures.provider ∙ same;

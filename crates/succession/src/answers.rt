@@ -6,12 +6,12 @@ ghost use Rattle.lookup.specs.Finding.{find_function};
 ghost use Rattle.lookup.specs.Laws.{FirstsInOrder};
 ghost use Rattle.procedures.specs.declared.row.Procedure.{Procedure as Row};
 
-use crate::resolver::Resolver;
 use base::refusal::Refusal;
 use context::tables::Context;
 use image::ImageSource;
 use procedures::function::Function;
 use provider::ModuleProvider;
+use resolver::resolver::Resolver;
 
 // Opens a resolver and looks up one address after the other, as far as there are rows for the answers. What was looked up before makes no
 // difference: each answer is that of a fresh resolver.

@@ -5,9 +5,8 @@ ghost use Rattle.shelf.specs.Shelf.{shelved};
 ghost use Rattle.lookup.specs.Reading.{empty_shelf};
 ghost use Rattle.listing.specs.Calls.{answer, shelf_left, History};
 ghost use Rattle.example.specs.Marked.{Marked};
-ghost use Rattle.resolver.specs.Succession.{rows_of, given, replied, left, rows_after};
+ghost use Rattle.succession.specs.Succession.{rows_of, given, replied, left, rows_after};
 
-use crate::resolver::Resolver;
 use addresses::Address;
 use base::refusal::Refusal;
 use context::tables::Context;
@@ -15,6 +14,7 @@ use frames::frame::{Frame, FunctionFrames};
 use image::ImageSource;
 use procedures::function::Function;
 use provider::ModuleProvider;
+use resolver::resolver::Resolver;
 
 // A call, without its table.
 #[derive(Clone, Copy)]
@@ -38,26 +38,29 @@ pub struct CallTables<'t> {
     pub addresses: &'t mut [Address],
 }
 
-impl<P: ModuleProvider> Resolver<P> {
-    pub fn answer(
-        &mut self,
+impl Call {
+    // Makes the call, with the table of its kind.
+    pub fn answer<P: ModuleProvider>(
+        self,
+        resolver: &mut Resolver<P>,
         context: &Context<'_>,
-        call: Call,
         tables: &mut CallTables<'_>,
     ) -> Answer
-        ensures answer { replied result (rows_of tables.new) ≡ answer (P.ImageSource.image self.old.provider).text (P.ModuleProvider.modules self.old.provider) (meaning context.now) (given call (rows_of tables.old)) (shelved self.old.shelf) }
-        ensures tables { rows_of tables.new ≡ left (answer (P.ImageSource.image self.old.provider).text (P.ModuleProvider.modules self.old.provider) (meaning context.now) (given call (rows_of tables.old)) (shelved self.old.shelf)) (rows_of tables.old) }
-        ensures shelf { shelved self.new.shelf ≡ shelf_left (P.ImageSource.image self.old.provider).text (P.ModuleProvider.modules self.old.provider) (meaning context.now) (given call (rows_of tables.old)) (shelved self.old.shelf) }
-        ensures provider { self.new.provider ≡ self.old.provider }
+        ensures answer { replied result (rows_of tables.new) ≡ answer (P.ImageSource.image resolver.old.provider).text (P.ModuleProvider.modules resolver.old.provider) (meaning context.now) (given self (rows_of tables.old)) (shelved resolver.old.shelf) }
+        ensures tables { rows_of tables.new ≡ left (answer (P.ImageSource.image resolver.old.provider).text (P.ModuleProvider.modules resolver.old.provider) (meaning context.now) (given self (rows_of tables.old)) (shelved resolver.old.shelf)) (rows_of tables.old) }
+        ensures shelf { shelved resolver.new.shelf ≡ shelf_left (P.ImageSource.image resolver.old.provider).text (P.ModuleProvider.modules resolver.old.provider) (meaning context.now) (given self (rows_of tables.old)) (shelved resolver.old.shelf) }
+        ensures provider { resolver.new.provider ≡ resolver.old.provider }
     {
-        match call {
-            Call::FindFunction(address) => Answer::Function(self.find_function(context, address)),
-            Call::FindFrames(address) => Answer::Frames(self.find_frames(
+        match self {
+            Call::FindFunction(address) => {
+                Answer::Function(resolver.find_function(context, address))
+            }
+            Call::FindFrames(address) => Answer::Frames(resolver.find_frames(
                 context,
                 address,
                 tables.frames,
             )),
-            Call::Functions => Answer::Functions(self.functions(context, tables.addresses)),
+            Call::Functions => Answer::Functions(resolver.functions(context, tables.addresses)),
         }
     }
 }
@@ -78,8 +81,8 @@ pub fn answer_after<P: ModuleProvider>(
 {
     let mut resolver = Resolver::open(provider);
     for call in calls {
-        let _answer = resolver.answer(context, *call, tables);
+        let _answer = call.answer(&mut resolver, context, tables);
     }
-    let answer = resolver.answer(context, last, tables);
+    let answer = last.answer(&mut resolver, context, tables);
     (resolver, answer)
 }
