@@ -1,6 +1,10 @@
--- How a list ends, and what is answered to a question for one of its items. Assumes nothing.
-use Rattle.std.specs.Prelude.{Option, Some, None, Result, Ok, Err}
+-- How long a list may be, how it ends, and what is answered to a question for one of its items. Assumes nothing.
+use Rattle.std.specs.Prelude.{ℕ, Option, Some, None, Result, Ok, Err}
 use Rattle.base.specs.declared.image.FaultCode.{FaultCode}
+
+-- the most items of a list: a count has 32 bits
+abbrev pub most_items : ℕ
+most_items = 4294967295
 
 -- with nothing, or with a fault
 abbrev pub Ending : Type 0

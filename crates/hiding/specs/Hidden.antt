@@ -1,13 +1,13 @@
 -- What hiding modules means. Assumes nothing.
 use Rattle.std.specs.Prelude.{◌≡◌, ℕ, Bool, true, false, cond, not, List, [], ◌∷◌, ◌++◌, length, Some, None, Option, ◌==◌, nat_lt, refl}
-use Rattle.std.proofs.Common.{lit<}
+use Rattle.std.specs.List.{list_any}
 use Rattle.order.specs.Rank.{pairwise}
-use Rattle.provider.specs.Modules.{Content, Modules, Regular, RegularModule, absent, content, nothing}
+use Rattle.provider.specs.Modules.{Content, Modules, Regular, RegularModule, absent, content}
+use Rattle.provider.proofs.Regular.{nothing_regular}
 
 -- whether a number is among the numbers
 abbrev pub among : List ℕ → ℕ → Bool
-among [] n = false
-among (m ∷ ms) n = cond (m == n) true (among ms n)
+among numbers n = list_any (λ m. m == n) numbers
 
 -- the modules, with those of some numbers absent
 abbrev pub hide : List ℕ → Modules → Modules
@@ -26,10 +26,6 @@ most = 64
 -- the numbers with one more; none where that would be one too many
 abbrev pub with : List ℕ → ℕ → Option (List ℕ)
 with numbers n = cond (among numbers n) (Some numbers) (cond (nat_lt (length numbers) most) (Some (numbers ++ n ∷ [])) None)
-
--- what is hidden has nothing, and so nothing that could be out of rule
-nothing_regular : RegularModule nothing
-nothing_regular = record { rises = refl; few_symbols = lit< tt; few_site_rows = λ site start. lit< tt; few_line_rows = λ start. lit< tt }
 
 at_regular : (b : Bool) (c : Content) → RegularModule (content c) → RegularModule (content (cond b absent c))
 at_regular true c h = nothing_regular

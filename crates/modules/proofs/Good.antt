@@ -7,6 +7,7 @@ use Rattle.std.proofs.lemmas.Option.{slice_get_past}
 use Rattle.std.proofs.ByRecursion.{All-take, All-drop, All-weaker}
 use Rattle.std.specs.Option.{option_or}
 use Rattle.std.specs.List.{AllByRecursion, slice_get}
+use Rattle.base.specs.Lists.{most_items}
 use Rattle.base.specs.Rows.{offset_rank}
 use Rattle.image.specs.Checks.{name_within, crowded, outside}
 use Rattle.order.specs.Rank.{before, same, first, Rises}
@@ -16,8 +17,9 @@ use Rattle.base.specs.declared.refusal.RowTable.{RowTable}
 use Rattle.base.specs.declared.refusal.RowTable.TheVariants.{Modules, Records, SiteLists, LineLists, Files}
 use Rattle.provider.specs.declared.symbols.ModuleState.{ModuleState}
 use Rattle.provider.specs.declared.symbols.ModuleState.TheVariants.{Absent, Broken, Present}
-use Rattle.provider.specs.Modules.{Module, Regular, RegularModule, content, index_rank, nothing, state_of}
+use Rattle.provider.specs.Modules.{Module, Regular, RegularModule, content, index_rank, most_modules, nothing}
 use Rattle.provider.specs.Names.{symbol_within}
+use Rattle.provider.proofs.Regular.{nothing_regular}
 use Rattle.modules.specs.declared.tables.RowRange.{RowRange}
 use Rattle.modules.specs.declared.tables.ModuleRow.{ModuleRow}
 use Rattle.modules.specs.declared.tables.SiteList.{SiteList}
@@ -25,7 +27,7 @@ use Rattle.modules.specs.declared.tables.LineList.{LineList}
 use Rattle.modules.specs.declared.tables.ModuleRows.{ModuleRows}
 use Rattle.modules.specs.Ranks.{site_rank, line_rank, file_rank}
 use Rattle.modules.specs.Meaning.{part, site_rows_of, line_rows_of, module_of, content_of, row_content, modules_of, no_module, AnswersFor}
-use Rattle.modules.specs.BadRows.{most, rows_within, unrisen, part_unrisen, parts_within, parts_unrisen, bad_module, bad_modules, bad_row}
+use Rattle.modules.specs.BadRows.{rows_within, unrisen, part_unrisen, parts_within, parts_unrisen, bad_module, bad_modules, bad_row}
 
 or_none : {X : Type 0} (a b : Option X) → option_or a b ≡ None → (a ≡ None) × (b ≡ None)
 or_none None b h = (refl, h)
@@ -69,8 +71,8 @@ pub record GoodModule (t : ModuleRows) (m : ModuleRow) : Type 0 where
 
 few-rows : {X : Type 0} (long : ℕ) (rows : List X) (r : RowRange) → rows_within long r ≡ true → length (part rows r) < 2 ^ 32
 few-rows long rows r h =
-    let p = and_parts (leb (r.first + r.count) long) (leb r.count 4294967295) h in
-    let few : r.count ≤ 4294967295 = leb-true r.count 4294967295 p.1 in
+    let p = and_parts (leb (r.first + r.count) long) (leb r.count most_items) h in
+    let few : r.count ≤ most_items = leb-true r.count most_items p.1 in
     let e = length-take r.count (drop r.first rows) in
     omega arith
 
@@ -101,27 +103,24 @@ good_at t k (n ∷ ms) h (suc j) m e =
 
 -- what the tables hold if no row is bad
 pub record GoodRows (t : ModuleRows) : Type 0 where
-  pub few : length t.modules.now ≤ 65536
+  pub few : length t.modules.now ≤ most_modules
   pub site_lists : AllByRecursion (λ l. rows_within (length t.site_rows.now) l.rows ≡ true) t.site_lists.now
   pub line_lists : AllByRecursion (λ l. rows_within (length t.line_rows.now) l.rows ≡ true) t.line_lists.now
   pub each : (k : ℕ) (m : ModuleRow) → slice_get t.modules.now k ≡ Some m → GoodModule t m
 
 pub good_rows : (text : List ℕ) (t : ModuleRows) → bad_row text t ≡ None → GoodRows t
 good_rows text t h =
-    let p = or_none (crowded Modules most t.modules.now) _ h in
+    let p = or_none (crowded Modules most_modules t.modules.now) _ h in
     let a = or_none (outside (λ long r. symbol_within long r.symbol) Records (length text) 0 t.symbols.now) _ p.1 in
     let b = or_none (outside (λ long f. name_within long f.name) Files (length text) 0 t.files.now) _ a.1 in
     let c = or_none (outside (λ long l. rows_within long l.rows) SiteLists (length t.site_rows.now) 0 t.site_lists.now) _ b.1 in
     let d = or_none (outside (λ long l. rows_within long l.rows) LineLists (length t.line_rows.now) 0 t.line_lists.now) _ c.1 in
     record {
-      few = few_enough Modules most t.modules.now p.0;
+      few = few_enough Modules most_modules t.modules.now p.0;
       site_lists = all_within (λ long l. rows_within long l.rows) SiteLists (length t.site_rows.now) 0 t.site_lists.now c.0;
       line_lists = all_within (λ long l. rows_within long l.rows) LineLists (length t.line_rows.now) 0 t.line_lists.now d.0;
       each = good_at t 0 t.modules.now d.1;
     }
-
-nothing_regular : RegularModule nothing
-nothing_regular = record { rises = refl; few_symbols = lit< tt; few_site_rows = λ site start. lit< tt; few_line_rows = λ start. lit< tt }
 
 -- what holds of all rows holds of the one that is found
 found_all : {X : Type 0} (P : X → Type 0) (test : X → Bool) (xs : List X) (x : X) → AllByRecursion P xs → first test xs ≡ Some x → P x
@@ -187,8 +186,3 @@ present_answers text t h k m e s =
       line_lists = in_order_from_rises line_rank (part t.line_lists.now m.line_lists) g.line_lists;
       files = in_order_from_rises file_rank (part t.files.now m.files) g.files;
     }
-
-state_kept : (s : ModuleState) (m : Module) → s ≡ state_of (content_of s m)
-state_kept Absent m = refl
-state_kept Broken m = refl
-state_kept Present m = refl

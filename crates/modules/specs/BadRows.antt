@@ -2,12 +2,13 @@
 use Rattle.std.specs.Prelude.{ℕ, ◌+◌, Bool, cond, ◌&&◌, List, [], ◌∷◌, length, Some, None, Option, nat_le}
 use Rattle.std.specs.Option.{option_or}
 use Rattle.order.specs.Rank.{before}
+use Rattle.base.specs.Lists.{most_items}
 use Rattle.base.specs.declared.refusal.Refusal.{Refusal}
 use Rattle.base.specs.declared.refusal.Refusal.TheVariants.{BadRow}
 use Rattle.base.specs.declared.refusal.RowTable.{RowTable}
 use Rattle.base.specs.declared.refusal.RowTable.TheVariants.{Modules, Records, SiteLists, LineLists, Files}
 use Rattle.image.specs.Checks.{name_within, crowded, outside}
-use Rattle.provider.specs.Modules.{index_rank}
+use Rattle.provider.specs.Modules.{index_rank, most_modules}
 use Rattle.provider.specs.Names.{symbol_within}
 use Rattle.modules.specs.declared.tables.RowRange.{RowRange}
 use Rattle.modules.specs.declared.tables.ModuleRow.{ModuleRow}
@@ -15,13 +16,9 @@ use Rattle.modules.specs.declared.tables.ModuleRows.{ModuleRows}
 use Rattle.modules.specs.Ranks.{site_rank, line_rank, file_rank}
 use Rattle.modules.specs.Meaning.{part}
 
--- the most rows of a list
-abbrev top : ℕ
-top = 4294967295
-
 -- whether rows lie inside a table of a length, and are a list
 abbrev pub rows_within : ℕ → RowRange → Bool
-rows_within long r = nat_le (r.first + r.count) long && nat_le r.count top
+rows_within long r = nat_le (r.first + r.count) long && nat_le r.count most_items
 
 -- the first row that does not come after its neighbour before it; the first of all has the number k
 abbrev pub unrisen : {X : Type 0} → (X → List ℕ) → RowTable → ℕ → List X → Option Refusal
@@ -56,14 +53,10 @@ abbrev pub bad_modules : ModuleRows → ℕ → List ModuleRow → Option Refusa
 bad_modules t k [] = None
 bad_modules t k (m ∷ ms) = option_or (bad_module t k m) (bad_modules t (k + 1) ms)
 
--- the most modules
-abbrev pub most : ℕ
-most = 65536
-
 -- the first of these that holds decides
 abbrev pub bad_row : List ℕ → ModuleRows → Option Refusal
 bad_row text t =
-    option_or (crowded Modules most t.modules.now)
+    option_or (crowded Modules most_modules t.modules.now)
     (option_or (outside (λ long r. symbol_within long r.symbol) Records (length text) 0 t.symbols.now)
     (option_or (outside (λ long f. name_within long f.name) Files (length text) 0 t.files.now)
     (option_or (outside (λ long l. rows_within long l.rows) SiteLists (length t.site_rows.now) 0 t.site_lists.now)

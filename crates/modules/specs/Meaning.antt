@@ -1,10 +1,10 @@
 -- What the tables of modules mean. Assumes nothing.
 use Rattle.std.specs.Prelude.{◌≡◌, ℕ, List, [], ◌∷◌, length, take, drop, Some, None, Option}
 use Rattle.std.specs.List.{slice_get}
+use Rattle.std.specs.Option.{option_map}
 use Rattle.order.specs.Rank.{InOrder, at}
 use Rattle.base.specs.Lists.{clean}
 use Rattle.base.specs.Rows.{offset_rank}
-use Rattle.base.specs.declared.image.TextPart.{TextPart}
 use Rattle.provider.specs.declared.symbols.ModuleState.{ModuleState}
 use Rattle.provider.specs.declared.symbols.ModuleState.TheVariants.{Absent, Broken, Present}
 use Rattle.provider.specs.declared.symbols.SiteRow.{SiteRow}
@@ -14,7 +14,6 @@ use Rattle.modules.specs.declared.tables.RowRange.{RowRange}
 use Rattle.modules.specs.declared.tables.ModuleRow.{ModuleRow}
 use Rattle.modules.specs.declared.tables.SiteList.{SiteList}
 use Rattle.modules.specs.declared.tables.LineList.{LineList}
-use Rattle.modules.specs.declared.tables.FileRow.{FileRow}
 use Rattle.modules.specs.declared.tables.ModuleRows.{ModuleRows}
 use Rattle.modules.specs.Ranks.{site_rank, line_rank, file_rank}
 
@@ -31,10 +30,6 @@ abbrev pub line_rows_of : ModuleRows → Option LineList → Listed LineRow
 line_rows_of t None = none_listed
 line_rows_of t (Some l) = record { items = part t.line_rows.now l.rows; ending = l.ending }
 
-abbrev pub name_of : Option FileRow → Option TextPart
-name_of None = None
-name_of (Some f) = Some f.name
-
 abbrev pub module_of : ModuleRows → ModuleRow → Module
 module_of t m = record {
   symbols = part t.symbols.now m.symbols;
@@ -42,7 +37,7 @@ module_of t m = record {
   extras = m.extras;
   site_rows = λ site start. site_rows_of t (at site_rank (site ∷ offset_rank start) (part t.site_lists.now m.site_lists));
   line_rows = λ start. line_rows_of t (at line_rank (offset_rank start) (part t.line_lists.now m.line_lists));
-  file = λ number. name_of (at file_rank (number ∷ []) (part t.files.now m.files));
+  file = λ number. option_map (λ f. f.name) (at file_rank (number ∷ []) (part t.files.now m.files));
 }
 
 -- by the state that its row gives it

@@ -66,7 +66,11 @@ pub record RegularModule (m : Module) : Type 0 where
   pub few_site_rows : (site : ℕ) (start : SectionOffset) → length (m.site_rows site start).items < 2 ^ 32
   pub few_line_rows : (start : SectionOffset) → length (m.line_rows start).items < 2 ^ 32
 
+-- a module's number has 16 bits
+abbrev pub most_modules : ℕ
+most_modules = 65536
+
 pub record Regular (ms : Modules) : Type 0 where
-  pub few : ms.count ≤ 65536
+  pub few : ms.count ≤ most_modules
   pub past : (k : ℕ) → ms.count ≤ k → ms.at k ≡ absent
   pub each : (k : ℕ) → RegularModule (content (ms.at k))

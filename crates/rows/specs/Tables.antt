@@ -1,7 +1,7 @@
 -- What the caller's tables mean, and which of their rows is refused. Assumes nothing.
-use Rattle.std.specs.Prelude.{ℕ, [], length, Option}
+use Rattle.std.specs.Prelude.{[], length, Option}
 use Rattle.std.specs.Option.{option_or}
-use Rattle.base.specs.Lists.{clean}
+use Rattle.base.specs.Lists.{clean, most_items}
 use Rattle.base.specs.declared.refusal.Refusal.{Refusal}
 use Rattle.base.specs.declared.refusal.RowTable.TheVariants.{Sections, PublicSymbolRows, ContributionRows}
 use Rattle.image.specs.Image.{Image}
@@ -29,14 +29,10 @@ nothing = record {
   contributions_end = clean;
 }
 
--- the most rows that a table may have
-abbrev most : ℕ
-most = 4294967295
-
 -- the first of these that holds decides
 abbrev pub bad_row : Image → Option Refusal
 bad_row i =
-    option_or (crowded Sections most i.sections)
-    (option_or (crowded PublicSymbolRows most i.symbols)
-    (option_or (crowded ContributionRows most i.contributions)
+    option_or (crowded Sections most_items i.sections)
+    (option_or (crowded PublicSymbolRows most_items i.symbols)
+    (option_or (crowded ContributionRows most_items i.contributions)
     (outside (λ long s. name_within long s.name) PublicSymbolRows (length i.text) 0 i.symbols)))
