@@ -1,21 +1,17 @@
 -- Addresses that come into a table. Assumes nothing.
-use Rattle.std.specs.Prelude.{◌≡◌, List, length, take, drop, Ok, Err, Result}
+use Rattle.std.specs.Prelude.{◌≡◌, List, length, take, drop, Result}
 use Rattle.order.specs.declared.Row.{Ghosts}
 use Rattle.base.specs.declared.image.Section.{Section}
 use Rattle.base.specs.declared.image.SectionOffset.{SectionOffset}
 use Rattle.base.specs.declared.refusal.Refusal.{Refusal}
 use Rattle.table.specs.declared.Table.{Table}
+use Rattle.inlining.specs.Steps.{leaves}
 use Rattle.addresses.specs.declared.Address.{Address}
 use Rattle.listing.specs.Listing.{with_offsets}
 
 -- the used rows of a table
 abbrev pub used : {g : Ghosts Address} → Table Address g → List Address
 used t = take t.count t.rows.now
-
--- the addresses that a granted call leaves, or its refusal
-abbrev pub leaves : {U : Type 0} → Result U Refusal → List Address → Result (List Address) Refusal
-leaves (Ok u) xs = Ok xs
-leaves (Err e) xs = Err e
 
 -- a call that is to add the addresses of places: what it answers and leaves, the rows past the used ones untouched
 pub record Adds {g : Ghosts Address} {U : Type 0} (sections : List Section) (places : List SectionOffset) (before after : Table Address g) (result : Result U Refusal) : Type 0 where

@@ -1,6 +1,7 @@
 // At most 1,024 ranges.
 ghost use Rattle.std.specs.Prelude.{◌≡◌, ◌≤◌, [], ◌∷◌, ◌++◌, is_ok, false};
 ghost use Rattle.inlining.specs.Ranges.{range_of, with_range, fitting};
+ghost use Rattle.inlining.specs.Steps.{leaves};
 
 use base::refusal::Refusal;
 use frames::range::InlineRange;
@@ -17,7 +18,7 @@ pub struct Ranges {
 }
 
 impl Ranges {
-    ghost use Rattle.ranges.specs.Held.{held, leaves};
+    ghost use Rattle.ranges.specs.Held.{held};
 
     pub fn empty() -> Ranges
         ensures { held result ≡ [] }

@@ -1,7 +1,8 @@
 // What a site adds that closes: from edge to edge of the ranges since it opened.
 ghost use Rattle.std.specs.Prelude.{◌≡◌, ◌≤◌, length, take, drop};
 ghost use Rattle.inlining.specs.Ranges.{most_ranges, fitting, completed};
-ghost use Rattle.ranges.specs.Held.{held, leaves};
+ghost use Rattle.inlining.specs.Steps.{leaves};
+ghost use Rattle.ranges.specs.Held.{held};
 ghost use Rattle.ranges.specs.Uncovered.{uncovered_at, First, FirstStretch};
 
 use crate::cover::{any_at_next_depth, is_uncovered, next_edge};

@@ -4,11 +4,9 @@ use Rattle.base.specs.declared.refusal.Refusal.{Refusal}
 use Rattle.provider.specs.declared.symbols.SymbolRecord.{SymbolRecord}
 use Rattle.provider.specs.Modules.{Module}
 use Rattle.procedures.specs.declared.row.Procedure.{Procedure}
-use Rattle.frames.specs.declared.range.InlineRange.{InlineRange}
 use Rattle.inlining.specs.Sites.{Site, turns, closings}
 use Rattle.inlining.specs.Ranges.{Walked, rows_from, walked}
-use Rattle.ranges.specs.Held.{held, calls}
-use Rattle.ranges.specs.declared.calls.InlineCalls.{InlineCalls}
+use Rattle.ranges.specs.Held.{held}
 use Rattle.sites.specs.declared.walk.Walk.{Walk}
 use Rattle.sites.specs.declared.walk.SiteRecord.{SiteRecord}
 
@@ -22,11 +20,6 @@ ends_of w = map (λ s. s.end) (walk_of w).sites
 
 abbrev pub site_of : SiteRecord → Site
 site_of s = record { item = s.item; index = s.index; inlinee = s.inlinee; end = s.end }
-
--- what a granted call leaves, or its refusal
-abbrev pub left : {U : Type 0} → Result U Refusal → Walk → Result Walked Refusal
-left (Ok u) w = Ok (walk_of w)
-left (Err e) w = Err e
 
 -- a walk in procedure p of module m
 module _ (m : ℕ) (x : Module) (p : Procedure) where
@@ -43,13 +36,3 @@ module _ (m : ℕ) (x : Module) (p : Procedure) where
   Stepped k r old new (Ok true) = (rs : List SymbolRecord) → onward k old (r ∷ rs) ≡ onward (k + 1) new rs
   Stepped k r old new (Ok false) = (rs : List SymbolRecord) → onward k old (r ∷ rs) ≡ finished new
   Stepped k r old new (Err e) = (rs : List SymbolRecord) → onward k old (r ∷ rs) ≡ Err e
-
-  -- where the records have led a walk, or its refusal
-  abbrev pub followed : {U : Type 0} → Result U Refusal → Walk → Result Walked Refusal
-  followed (Ok u) w = finished w
-  followed (Err e) w = Err e
-
--- the calls that are listed, or the refusal
-abbrev pub listed : Result InlineCalls Refusal → Result (List InlineRange) Refusal
-listed (Ok c) = Ok (calls c)
-listed (Err e) = Err e

@@ -1,8 +1,9 @@
 // The calls that are inlined at a place.
-ghost use Rattle.std.specs.Prelude.{◌≡◌};
+ghost use Rattle.std.specs.Prelude.{◌≡◌, Ok};
 ghost use Rattle.provider.specs.Modules.{content};
+ghost use Rattle.inlining.specs.Steps.{then};
 ghost use Rattle.inlining.specs.Finding.{inlined_calls};
-ghost use Rattle.sites.specs.Walk.{listed};
+ghost use Rattle.ranges.specs.Held.{calls};
 
 use crate::walk::Walk;
 use base::refusal::Refusal;
@@ -17,7 +18,7 @@ pub fn inline_calls<P: ModuleProvider>(
     procedure: &Procedure,
     place: u32,
 ) -> Result<InlineCalls, Refusal>
-    ensures { listed result ≡ inlined_calls «module» (content ((P.ModuleProvider.modules provider.now).at «module»)) place (Some procedure.now) }
+    ensures { then result (λ c. Ok (calls c)) ≡ inlined_calls «module» (content ((P.ModuleProvider.modules provider.now).at «module»)) place (Some procedure.now) }
 {
     let walk = Walk::of(provider, module, procedure)?;
     Ok(walk.ranges.calls_at(place))

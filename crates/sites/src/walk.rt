@@ -3,7 +3,7 @@ ghost use Rattle.std.specs.Prelude.{◌≡◌, ◌-◌, ◌≤◌, List, [], ◌
 ghost use Rattle.std.specs.List.{slice_get};
 ghost use Rattle.provider.specs.Modules.{content};
 ghost use Rattle.provider.specs.declared.symbols.SiteRow.{SiteRow as Row};
-ghost use Rattle.inlining.specs.Steps.{then};
+ghost use Rattle.inlining.specs.Steps.{then, leaves};
 ghost use Rattle.inlining.specs.Sites.{Site, turns_of, closings};
 ghost use Rattle.inlining.specs.Ranges.{nothing_walked, opened, closed, walked, rows_from};
 ghost use Rattle.sites.specs.Rows.{filed, row_added};
@@ -37,7 +37,7 @@ pub(crate) struct SiteRecord {
 }
 
 impl Walk {
-    ghost use Rattle.sites.specs.Walk.{walk_of, ends_of, site_of, left, onward, Stepped, followed};
+    ghost use Rattle.sites.specs.Walk.{walk_of, ends_of, site_of, onward, finished, Stepped};
 
     // The walk of a procedure, from its first record to its last.
     pub(crate) fn of<P: ModuleProvider>(
@@ -76,7 +76,7 @@ impl Walk {
         procedure: &Procedure,
         first: u32,
     ) -> Result<(), Refusal>
-        ensures { let x = content ((P.ModuleProvider.modules provider.now).at «module») in followed «module» x procedure.now result self.new ≡ onward «module» x procedure.now first self.old (drop first x.symbols) }
+        ensures { let x = content ((P.ModuleProvider.modules provider.now).at «module») in then result (λ u. finished «module» x procedure.now self.new) ≡ onward «module» x procedure.now first self.old (drop first x.symbols) }
     {
         for item in first..=u32::MAX {
             let Ok(Some(found)) = provider.symbol(module, item) else {
@@ -138,7 +138,7 @@ impl Walk {
         procedure: &Procedure,
         site: SiteRecord,
     ) -> Result<(), Refusal>
-        ensures walk { left result self.new ≡ opened «module» (rows_from (content ((P.ModuleProvider.modules provider.now).at «module»)) procedure.now) (site_of site) (walk_of self.old) }
+        ensures walk { leaves result (walk_of self.new) ≡ opened «module» (rows_from (content ((P.ModuleProvider.modules provider.now).at «module»)) procedure.now) (site_of site) (walk_of self.old) }
         ensures skip { self.new.skip ≡ self.old.skip }
     {
         self.push(module, site)?;
@@ -153,7 +153,7 @@ impl Walk {
 
     // A site opens that has no rows so far.
     fn push(&mut self, module: u16, site: SiteRecord) -> Result<(), Refusal>
-        ensures walk { left result self.new ≡ opened «module» (λ s. []) (site_of site) (walk_of self.old) }
+        ensures walk { leaves result (walk_of self.new) ≡ opened «module» (λ s. []) (site_of site) (walk_of self.old) }
         ensures skip { self.new.skip ≡ self.old.skip }
     {
         if self.depth >= MOST_OPEN {
@@ -174,7 +174,7 @@ impl Walk {
 
     // A row of the innermost site, whose record is the one at number `item`.
     fn add_row(&mut self, module: u16, item: u32, row: SiteRow) -> Result<(), Refusal>
-        ensures walk { left result self.new ≡ row_added «module» item row (walk_of self.old) }
+        ensures walk { leaves result (walk_of self.new) ≡ row_added «module» item row (walk_of self.old) }
         ensures skip { self.new.skip ≡ self.old.skip }
     {
         let Some(depth) = self.depth.checked_sub(1) else {
@@ -188,7 +188,7 @@ impl Walk {
 
     // The innermost site closes, where one is open.
     fn close(&mut self, module: u16) -> Result<(), Refusal>
-        ensures walk { left result self.new ≡ closed «module» (walk_of self.old) }
+        ensures walk { leaves result (walk_of self.new) ≡ closed «module» (walk_of self.old) }
         ensures depth { self.new.depth ≡ self.old.depth - 1 }
         ensures skip { self.new.skip ≡ self.old.skip }
     {
@@ -202,7 +202,7 @@ impl Walk {
 
     // All open sites close, the innermost first.
     fn close_all(&mut self, module: u16) -> Result<(), Refusal>
-        ensures { (rows : Site → List Row) → left result self.new ≡ walked «module» rows (walk_of self.old) (closings (ends_of self.old)) }
+        ensures { (rows : Site → List Row) → leaves result (walk_of self.new) ≡ walked «module» rows (walk_of self.old) (closings (ends_of self.old)) }
     {
         while self.depth > 0 {
             self.close(module)?;

@@ -14,7 +14,7 @@ use Rattle.frames.specs.declared.range.InlineRange.{InlineRange}
 use Rattle.inlining.specs.Steps.{then as and_then}
 use Rattle.inlining.specs.Choice.{line_at}
 use Rattle.inlining.specs.Finding.{start_of, inlined_calls, inline_frame, function_frame, informed_frames, frames_of, written, fitted}
-use Rattle.stack.specs.Known.{Known, known, known_at, nothing_known, told, told_or, frames_from}
+use Rattle.stack.specs.Known.{Known, known, known_at, nothing_known, told, frames_from}
 use Rattle.stack.specs.declared.stack.Stack.{Stack}
 
 -- one step after another, and then one more
@@ -53,8 +53,8 @@ frames_known ms l s choice f =
     go false k h e = refl
 
 module _ (ms : Modules) (l : Location) (s : Shelved) (choice : Option Procedure) (f : Function) (table : List Frame) where
-  pub written_told : (stack : Stack) → told_or (Ok stack) ≡ known_at ms l f choice s → written table f (frames_of ms l s choice f) ≡ fitted table f (frames_from l.contribution.«module» (content (ms.at l.contribution.«module»)) f (told stack))
+  pub written_told : (stack : Stack) → Ok (told stack) ≡ known_at ms l f choice s → written table f (frames_of ms l s choice f) ≡ fitted table f (frames_from l.contribution.«module» (content (ms.at l.contribution.«module»)) f (told stack))
   written_told stack h = ap (written table f) (frames_known ms l s choice f ∙ ap (λ w. and_then w (λ k. Ok (frames_from l.contribution.«module» (content (ms.at l.contribution.«module»)) f k))) (sym h))
 
-  pub written_refused : (e : Refusal) → told_or (Err e) ≡ known_at ms l f choice s → written table f (frames_of ms l s choice f) ≡ record { answer = Err e; table = table }
+  pub written_refused : (e : Refusal) → Err e ≡ known_at ms l f choice s → written table f (frames_of ms l s choice f) ≡ record { answer = Err e; table = table }
   written_refused e h = ap (written table f) (frames_known ms l s choice f ∙ ap (λ w. and_then w (λ k. Ok (frames_from l.contribution.«module» (content (ms.at l.contribution.«module»)) f k))) (sym h))

@@ -1,5 +1,5 @@
 -- What is known of a place in a function, and the frames that follow from it. Assumes nothing.
-use Rattle.std.specs.Prelude.{ℕ, cond, List, [], ◌∷◌, ◌++◌, map, reverse, None, Ok, Err, Option, Result}
+use Rattle.std.specs.Prelude.{ℕ, cond, List, [], ◌∷◌, ◌++◌, map, reverse, None, Ok, Option, Result}
 use Rattle.base.specs.declared.image.SectionOffset.{SectionOffset}
 use Rattle.base.specs.declared.refusal.Refusal.{Refusal}
 use Rattle.base.specs.declared.refusal.FaultyList.TheVariants.{Extras}
@@ -35,10 +35,6 @@ known m x start place choice =
 
 abbrev pub told : Stack → Known
 told s = record { line = s.line; inlined = calls s.calls }
-
-abbrev pub told_or : Result Stack Refusal → Result Known Refusal
-told_or (Ok s) = Ok (told s)
-told_or (Err e) = Err e
 
 -- the innermost call first, the function last
 abbrev pub frames_from : ℕ → Module → Function → Known → List Frame

@@ -1,9 +1,10 @@
 // The frames of an address, given a provider and a shelf.
-ghost use Rattle.std.specs.Prelude.{◌≡◌, ◌+◌, ◌^◌, ◌<◌, None};
+ghost use Rattle.std.specs.Prelude.{◌≡◌, ◌+◌, ◌^◌, ◌<◌, None, Ok};
 ghost use Rattle.context.specs.Context.{meaning};
 ghost use Rattle.shelf.specs.Shelf.{shelved};
+ghost use Rattle.inlining.specs.Steps.{then};
 ghost use Rattle.inlining.specs.Finding.{find_frames as frames_found, shelved_frames, written, frames_of};
-ghost use Rattle.stack.specs.Known.{told_or, known_at};
+ghost use Rattle.stack.specs.Known.{told, known_at};
 
 use crate::stack::Stack;
 use base::image::SectionOffset;
@@ -82,7 +83,7 @@ fn stack_at<P: ModuleProvider>(
     function: &Function,
     choice: Option<Procedure>,
 ) -> Result<Stack, Refusal>
-    ensures { told_or result ≡ known_at (P.ModuleProvider.modules provider.now) location.now function.now choice (shelved shelf.now) }
+    ensures { then result (λ s. Ok (told s)) ≡ known_at (P.ModuleProvider.modules provider.now) location.now function.now choice (shelved shelf.now) }
 {
     let module = location.contribution.module;
     if shelf.module != Some(module) {

@@ -1,8 +1,9 @@
 // What is known of a place in a function, and how the frames that follow from it come into a table.
-ghost use Rattle.std.specs.Prelude.{◌≡◌};
+ghost use Rattle.std.specs.Prelude.{◌≡◌, Ok};
 ghost use Rattle.provider.specs.Modules.{content};
+ghost use Rattle.inlining.specs.Steps.{then};
 ghost use Rattle.inlining.specs.Finding.{file_in, function_frame as frame_of_function, inline_frame as frame_of_call, fitted};
-ghost use Rattle.stack.specs.Known.{known, nothing_known, told, told_or, frames_from};
+ghost use Rattle.stack.specs.Known.{known, nothing_known, told, frames_from};
 
 use base::image::SectionOffset;
 use base::refusal::{FaultyList, Refusal};
@@ -43,7 +44,7 @@ impl Stack {
         place: u32,
         choice: Option<Procedure>,
     ) -> Result<Stack, Refusal>
-        ensures { told_or result ≡ known «module» (content ((P.ModuleProvider.modules provider.now).at «module»)) start place choice }
+        ensures { then result (λ s. Ok (told s)) ≡ known «module» (content ((P.ModuleProvider.modules provider.now).at «module»)) start place choice }
     {
         FaultyList::Extras { module }.refuse(provider.extras(module))?;
         let line = line_at(provider, module, start, place)?;
