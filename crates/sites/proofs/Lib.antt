@@ -1,2 +1,3 @@
+pub mod Open
 pub mod Rows
 pub mod Turning

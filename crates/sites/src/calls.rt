@@ -20,6 +20,8 @@ pub fn inline_calls<P: ModuleProvider>(
 ) -> Result<InlineCalls, Refusal>
     ensures { then result (λ c. Ok (calls c)) ≡ inlined_calls «module» (content ((P.ModuleProvider.modules provider.now).at «module»)) place (Some procedure.now) }
 {
-    let walk = Walk::of(provider, module, procedure)?;
+    // it is large, so that it is lent and not moved
+    let mut walk = Walk::empty();
+    walk.along(provider, module, procedure)?;
     Ok(walk.ranges.calls_at(place))
 }

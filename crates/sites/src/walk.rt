@@ -1,10 +1,10 @@
 // A walk along a procedure's records.
-ghost use Rattle.std.specs.Prelude.{◌≡◌, ◌-◌, ◌≤◌, List, [], ◌∷◌, drop, Ok};
+ghost use Rattle.std.specs.Prelude.{◌≡◌, ◌+◌, ◌-◌, ◌≤◌, List, [], ◌∷◌, drop};
 ghost use Rattle.std.specs.List.{slice_get};
 ghost use Rattle.provider.specs.Modules.{content};
 ghost use Rattle.provider.specs.declared.symbols.SiteRow.{SiteRow as Row};
 ghost use Rattle.inlining.specs.Steps.{then, leaves};
-ghost use Rattle.inlining.specs.Sites.{Site, turns_of, closings};
+ghost use Rattle.inlining.specs.Sites.{Site, closings};
 ghost use Rattle.inlining.specs.Ranges.{nothing_walked, opened, closed, walked, rows_from};
 ghost use Rattle.sites.specs.Rows.{filed, row_added};
 
@@ -39,24 +39,7 @@ pub(crate) struct SiteRecord {
 impl Walk {
     ghost use Rattle.sites.specs.Walk.{walk_of, ends_of, site_of, onward, finished, Stepped};
 
-    // The walk of a procedure, from its first record to its last.
-    pub(crate) fn of<P: ModuleProvider>(
-        provider: &P,
-        module: u16,
-        procedure: &Procedure,
-    ) -> Result<Walk, Refusal>
-        ensures { let x = content ((P.ModuleProvider.modules provider.now).at «module») in then result (λ w. Ok (walk_of w)) ≡ walked «module» (rows_from x procedure.now) nothing_walked (turns_of x.symbols procedure.now) }
-    {
-        let mut walk = Walk::empty();
-        // past the highest number there are no records
-        if let Some(first) = procedure.item.checked_add(1) {
-            walk.follow(provider, module, procedure, first)?;
-        }
-        walk.close_all(module)?;
-        Ok(walk)
-    }
-
-    fn empty() -> Walk
+    pub(crate) fn empty() -> Walk
         ensures walk { walk_of result ≡ nothing_walked }
         ensures skip { result.skip ≡ None }
     {
@@ -66,6 +49,22 @@ impl Walk {
             ranges: Ranges::empty(),
             skip: None,
         }
+    }
+
+    // Goes along a procedure, from the record after its own to the last one, and closes what is open then.
+    pub(crate) fn along<P: ModuleProvider>(
+        &mut self,
+        provider: &P,
+        module: u16,
+        procedure: &Procedure,
+    ) -> Result<(), Refusal>
+        ensures { let x = content ((P.ModuleProvider.modules provider.now).at «module») in leaves result (walk_of self.new) ≡ onward «module» x procedure.now (procedure.now.item + 1) self.old (drop (procedure.now.item + 1) x.symbols) }
+    {
+        // past the highest number there are no records
+        if let Some(first) = procedure.item.checked_add(1) {
+            self.follow(provider, module, procedure, first)?;
+        }
+        self.close_all(module)
     }
 
     // Takes the records from number `first` on. A fault ends their list like its end.
