@@ -5,7 +5,7 @@ ghost use Rattle.inlining.specs.Steps.{leaves};
 ghost use Rattle.ranges.specs.Held.{held};
 ghost use Rattle.ranges.specs.Uncovered.{uncovered_at, First, FirstStretch};
 
-use crate::cover::{any_at_next_depth, is_uncovered, next_edge};
+use crate::cover::{any_at_next_depth, is_uncovered, next_place};
 use crate::list::Ranges;
 use base::refusal::Refusal;
 use frames::range::{InlineRange, OpenSite};
@@ -61,13 +61,13 @@ fn first_stretch(ranges: &[InlineRange], depth: usize, from: u32) -> Option<(u32
     Some((start, end))
 }
 
-// The first place from `from` on that is covered so, or the first that is not, as is wanted. From one edge to the next nothing changes.
+// The first place from `from` on that is uncovered, or the first that is not, as is wanted.
 fn first_place(ranges: &[InlineRange], depth: usize, wanted: bool, from: u32) -> Option<u32>
     ensures { First (uncovered_at depth ranges.now) wanted from result }
 {
     let mut place = from;
     while is_uncovered(ranges, depth, place) != wanted {
-        place = next_edge(ranges, place)?;
+        place = next_place(ranges, depth, place)?;
     }
     Some(place)
 }
