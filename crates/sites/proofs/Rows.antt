@@ -1,5 +1,6 @@
 -- The rows of a site that opens, one after another. Assumes nothing.
 use Rattle.std.proofs.Common.{◌≡◌, ℕ, ◌+◌, ◌<◌, nat_le, Bool, true, false, cond, List, [], ◌∷◌, length, drop, Some, None, Option, Ok, Err, Result, sym, refl, ap, ◌∙◌}
+use Rattle.std.specs.List.{slice_get}
 use Rattle.order.specs.Rank.{first}
 use Rattle.base.specs.declared.refusal.Refusal.{Refusal}
 use Rattle.base.specs.declared.refusal.Refusal.TheVariants.{SitesTooDeep}
@@ -51,26 +52,33 @@ opened_then m rows s w = on (nat_le most_open (length w.sites))
     on true = refl
     on false = sym (rows_added_all m s.item w.sites (rows s) top w.ranges)
 
--- one answer more to the questions for rows
-module _ (m k : ℕ) (rows : List SiteRow) (end : Ending) (n : ℕ) (w : Walked) where
+-- a site has opened, and its rows are to come
+pub rows_begin : (m : ℕ) (rows : Site → List SiteRow) (s : Site) (w v : Walked) → Ok v ≡ opened m (λ _. []) s w → rows_added m s.item (rows s) v ≡ opened m rows s w
+rows_begin m rows s w v h = sym (opened_then m rows s w ∙ ap (λ r. then r (λ v. rows_added m s.item (rows s) v)) (sym h))
+
+-- one answer more to the questions for rows, where those from number n on come to all
+module _ (m k : ℕ) (rows : List SiteRow) (end : Ending) (n : ℕ) (w : Walked) (all : Result Walked Refusal) (come : rows_added m k (drop n rows) w ≡ all) where
   abbrev step : Result Walked Refusal → Result Walked Refusal
   step r = then r (λ v. rows_added m k (drop (n + 1) rows) v)
 
-  module _ (row : SiteRow) (found : entry rows end n ≡ Ok (Some row)) where
-    row_first : rows_added m k (drop n rows) w ≡ step (row_added m k row w)
-    row_first = ap (λ rs. rows_added m k rs w) (item_drop rows n row (entry_item rows end n row found))
+  module _ (row : SiteRow) (o : Option SiteRow) (answered : Ok o ≡ entry rows end n) (is_row : o ≡ Some row) where
+    row_there : slice_get rows n ≡ Some row
+    row_there = entry_item rows end n row (sym answered ∙ ap Ok is_row)
 
-    pub row_on : (v : Walked) → Ok v ≡ row_added m k row w → rows_added m k (drop n rows) w ≡ rows_added m k (drop (n + 1) rows) v
-    row_on v h = row_first ∙ ap step (sym h)
+    row_first : all ≡ step (row_added m k row w)
+    row_first = sym come ∙ ap (λ rs. rows_added m k rs w) (item_drop rows n row row_there)
 
-    pub row_refused : (e : Refusal) → Err e ≡ row_added m k row w → rows_added m k (drop n rows) w ≡ Err e
-    row_refused e h = row_first ∙ ap step (sym h)
+    pub row_on : (v : Walked) → Ok v ≡ row_added m k row w → rows_added m k (drop (n + 1) rows) v ≡ all
+    row_on v h = sym (row_first ∙ ap step (sym h))
+
+    pub row_refused : (e : Refusal) → Err e ≡ row_added m k row w → Err e ≡ all
+    row_refused e h = sym (row_first ∙ ap step (sym h))
 
     pub row_within : n < length rows
-    row_within = item_within rows n row (entry_item rows end n row found)
+    row_within = item_within rows n row row_there
 
-  pub rows_end : entry rows end n ≡ Ok None → rows_added m k (drop n rows) w ≡ Ok w
-  rows_end e = ap (λ rs. rows_added m k rs w) (end_drop rows n (entry_end rows end n e).0)
+  pub rows_end : entry rows end n ≡ Ok None → Ok w ≡ all
+  rows_end e = ap (λ rs. rows_added m k rs w) (sym (end_drop rows n (entry_end rows end n e).0)) ∙ come
 
-  pub rows_fault : (code : FaultCode) → entry rows end n ≡ Err code → rows_added m k (drop n rows) w ≡ Ok w
-  rows_fault code e = ap (λ rs. rows_added m k rs w) (end_drop rows n (entry_fault rows end n code e).0)
+  pub rows_fault : (code : FaultCode) (q : Result (Option SiteRow) FaultCode) → q ≡ Err code → q ≡ entry rows end n → Ok w ≡ all
+  rows_fault code q e a = ap (λ rs. rows_added m k rs w) (sym (end_drop rows n (entry_fault rows end n code (sym a ∙ e)).0)) ∙ come

@@ -1,5 +1,5 @@
 -- What a record does to a walk. Assumes nothing.
-use Rattle.std.proofs.Common.{◌≡◌, ℕ, ◌+◌, ◌<◌, ◌≤◌, nat_le, Bool, true, false, cond, List, [], ◌∷◌, map, drop, length, Some, None, Ok, Err, Result, sym, refl, ap, ◌∙◌, subst}
+use Rattle.std.proofs.Common.{◌≡◌, ℕ, ◌+◌, ◌<◌, ◌≤◌, nat_le, Bool, true, false, cond, List, [], ◌∷◌, map, drop, length, Some, None, Option, Ok, Err, Result, sym, refl, ap, ◌∙◌, subst}
 use Rattle.std.proofs.lemmas.Bool.{lt-leb, le-leb}
 use Rattle.std.specs.List.{slice_get}
 use Rattle.frames.specs.declared.range.OpenSite.{OpenSite}
@@ -80,26 +80,29 @@ module _ (m : ℕ) (x : Module) (p : Procedure) (k : ℕ) (r : SymbolRecord) (ol
           let at : nat_le t.end r.index ≡ true = le-leb t.end r.index (subst (λ u. u.end ≤ r.index) (sym same) l) in
           rw (at, ← c) refl
 
--- one answer more to the questions for records
-module _ (m : ℕ) (x : Module) (p : Procedure) (k : ℕ) (old : Walk) where
-  module _ (r : SymbolRecord) (found : entry x.symbols x.symbols_end k ≡ Ok (Some r)) where
-    record_first : onward m x p k old (drop k x.symbols) ≡ onward m x p k old (r ∷ drop (k + 1) x.symbols)
-    record_first = ap (onward m x p k old) (item_drop x.symbols k r (entry_item x.symbols x.symbols_end k r found))
+-- one answer more to the questions for records, where those from number k on come to all
+module _ (m : ℕ) (x : Module) (p : Procedure) (k : ℕ) (old : Walk) (all : Result Walked Refusal) (come : onward m x p k old (drop k x.symbols) ≡ all) where
+  module _ (r : SymbolRecord) (o : Option SymbolRecord) (answered : Ok o ≡ entry x.symbols x.symbols_end k) (is_record : o ≡ Some r) where
+    record_there : slice_get x.symbols k ≡ Some r
+    record_there = entry_item x.symbols x.symbols_end k r (sym answered ∙ ap Ok is_record)
 
-    pub record_on : (new : Walk) → Stepped m x p k r old new (Ok true) → onward m x p k old (drop k x.symbols) ≡ onward m x p (k + 1) new (drop (k + 1) x.symbols)
-    record_on new h = record_first ∙ h (drop (k + 1) x.symbols)
+    record_first : all ≡ onward m x p k old (r ∷ drop (k + 1) x.symbols)
+    record_first = sym come ∙ ap (onward m x p k old) (item_drop x.symbols k r record_there)
 
-    pub record_last : (new : Walk) → Stepped m x p k r old new (Ok false) → onward m x p k old (drop k x.symbols) ≡ finished m x p new
-    record_last new h = record_first ∙ h (drop (k + 1) x.symbols)
+    pub record_on : (new : Walk) (b : Bool) → b ≡ true → Stepped m x p k r old new (Ok b) → onward m x p (k + 1) new (drop (k + 1) x.symbols) ≡ all
+    record_on new b e h = sym (record_first ∙ subst (λ v. Stepped m x p k r old new (Ok v)) e h (drop (k + 1) x.symbols))
 
-    pub record_refused : (new : Walk) (e : Refusal) → Stepped m x p k r old new (Err e) → onward m x p k old (drop k x.symbols) ≡ Err e
-    record_refused new e h = record_first ∙ h (drop (k + 1) x.symbols)
+    pub record_last : (new : Walk) (b : Bool) → b ≡ false → Stepped m x p k r old new (Ok b) → finished m x p new ≡ all
+    record_last new b e h = sym (record_first ∙ subst (λ v. Stepped m x p k r old new (Ok v)) e h (drop (k + 1) x.symbols))
+
+    pub record_refused : (new : Walk) (e : Refusal) → Stepped m x p k r old new (Err e) → Err e ≡ all
+    record_refused new e h = sym (record_first ∙ h (drop (k + 1) x.symbols))
 
     pub record_within : k < length x.symbols
-    record_within = item_within x.symbols k r (entry_item x.symbols x.symbols_end k r found)
+    record_within = item_within x.symbols k r record_there
 
-  pub records_end : entry x.symbols x.symbols_end k ≡ Ok None → onward m x p k old (drop k x.symbols) ≡ finished m x p old
-  records_end e = ap (onward m x p k old) (end_drop x.symbols k (entry_end x.symbols x.symbols_end k e).0)
+  pub records_end : entry x.symbols x.symbols_end k ≡ Ok None → finished m x p old ≡ all
+  records_end e = ap (onward m x p k old) (sym (end_drop x.symbols k (entry_end x.symbols x.symbols_end k e).0)) ∙ come
 
-  pub records_fault : (code : FaultCode) → entry x.symbols x.symbols_end k ≡ Err code → onward m x p k old (drop k x.symbols) ≡ finished m x p old
-  records_fault code e = ap (onward m x p k old) (end_drop x.symbols k (entry_fault x.symbols x.symbols_end k code e).0)
+  pub records_fault : (code : FaultCode) (q : Result (Option SymbolRecord) FaultCode) → q ≡ Err code → q ≡ entry x.symbols x.symbols_end k → finished m x p old ≡ all
+  records_fault code q e a = ap (onward m x p k old) (sym (end_drop x.symbols k (entry_fault x.symbols x.symbols_end k code (sym a ∙ e)).0)) ∙ come
