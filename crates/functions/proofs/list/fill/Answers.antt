@@ -31,7 +31,7 @@ returns-in_err-add_all-2 g c =
     let inside : l.module < ms.count = search (rules, c.module_count-module-end.ensures) in
     let e = c.in_err-add_all-2.field-0.0 in
     let added : Err e ≡ with_offsets rows there.sections (used l.addresses) (map procedure_offset (shelved c.want.new.self).procedures) =
-    c.in_err-add_all-2.ensures.added.answer ∙ ap (λ n. with_offsets n there.sections (used l.addresses) (map procedure_offset c.procedures.result.rows.now)) l.invariant.long ∙ ap (λ ps. with_offsets rows there.sections (used l.addresses) (map procedure_offset ps)) c.procedures.ensures.value in
+    ◌∙◌ {a = Err e} {b = with_offsets (length l.addresses.rows.now) there.sections (used l.addresses) (map procedure_offset c.procedures.result.rows.now)} c.in_err-add_all-2.ensures.added.answer (ap (λ n. with_offsets n there.sections (used l.addresses) (map procedure_offset c.procedures.result.rows.now)) l.invariant.long ∙ ap (λ ps. with_offsets rows there.sections (used l.addresses) (map procedure_offset ps)) c.procedures.ensures.value) in
     let all = added_module ms there rows (shelved c.args.shelf.now) l.module inside (used l.addresses) (shelved l.shelf) l.invariant.come (shelved c.want.new.self) c.in_ok-want.ensures.answer c.in_ok-want.ensures.shelf (Err e) added in
     let p : c.from_residual-in_err-add_all-2.result ≡ Err e = search rules in
     record {
@@ -51,7 +51,7 @@ loop-module-preserved g c =
     let h = c.in_ok-add_all-2.ensures in
     let after = c.add_all-in-loop-module.new.addresses in
     let added : Ok (used after) ≡ with_offsets rows there.sections (used l.addresses) (map procedure_offset (shelved c.want.new.self).procedures) =
-    h.added.answer ∙ ap (λ n. with_offsets n there.sections (used l.addresses) (map procedure_offset c.procedures.result.rows.now)) l.invariant.long ∙ ap (λ ps. with_offsets rows there.sections (used l.addresses) (map procedure_offset ps)) c.procedures.ensures.value in
+    ◌∙◌ {a = Ok (used after)} {b = with_offsets (length l.addresses.rows.now) there.sections (used l.addresses) (map procedure_offset c.procedures.result.rows.now)} h.added.answer (ap (λ n. with_offsets n there.sections (used l.addresses) (map procedure_offset c.procedures.result.rows.now)) l.invariant.long ∙ ap (λ ps. with_offsets rows there.sections (used l.addresses) (map procedure_offset ps)) c.procedures.ensures.value) in
     record {
       come = sym (added_module ms there rows (shelved c.args.shelf.now) l.module inside (used l.addresses) (shelved l.shelf) l.invariant.come (shelved c.want.new.self) c.in_ok-want.ensures.answer c.in_ok-want.ensures.shelf (Ok (used after)) added);
       rest = h.added.rest ∙ further l.addresses.count after.count h.grows l.addresses.rows.now c.args.addresses.now l.invariant.rest;

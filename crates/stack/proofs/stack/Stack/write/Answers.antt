@@ -28,7 +28,7 @@ returns-clause-table g c =
     let all : c.loop-k.k ≡ n = search rules in
     let room : n < length old = search rules in
     let fits : ltb (length old) (length (reverse (map f calls) ++ last ∷ [])) ≡ false = le-ltb _ _ (omega arith) in
-    ap (set c.loop-k.frames n) c.function_frame.ensures ∙
+    ap (set c.loop-k.frames n) {y = last} c.function_frame.ensures ∙
     all_written f calls old c.loop-k.frames last n refl room (subst (λ m. c.loop-k.frames ≡ map f (take m (reverse calls)) ++ drop m old) all c.loop-k.invariant) ∙
     sym (ap {A = Written} (λ w. w.table) (cond-false _ _ _ fits)) ∙
     ap (λ cs. (fitted old c.args.function.now (reverse (map f cs) ++ last ∷ [])).table) c.used-calls.ensures
