@@ -3,26 +3,17 @@
 // addresses and the descriptions are all good.
 #![tactic(auto)]
 
-mod answers;
-mod check;
 mod failure;
 mod files;
-mod frame_lines;
 mod input;
-mod list;
-mod opening;
 mod options;
-mod parts;
-mod print;
-mod reply;
-mod stack_lines;
 
-use answers::write_image;
 use description::read_description;
 use failure::{Failure, wrong};
 use input::{Input, shown};
 use options::{Options, read_options};
 use printing::push_escaped;
+use report::write_image;
 use std::process::ExitCode;
 
 fn main(rt: HostRuntime) -> ExitCode {
@@ -63,5 +54,5 @@ fn write_path(
     out.push_str("image ")?;
     push_escaped(out, path.as_bytes())?;
     out.push_str("\n")?;
-    write_image(heap, out, &description, options)
+    Ok(write_image(heap, out, &description, &options.asked)?)
 }

@@ -5,34 +5,16 @@ ghost use Rattle.std.specs.Vec.Iter.{into_iter_len};
 use crate::failure::{Failure, Flaw, wrong};
 use crate::files::read_addresses;
 use crate::input::Input;
+use report::asked::{Asked, Form};
 use std::alloc::Global;
 use std::env;
 use std::env::Args;
 use words::number::number;
 
-// In which form addresses are answered.
-#[derive(Clone, Copy)]
-pub enum Form {
-    // which function an address lies in
-    Function,
-    // its frames, as the rows of a description are answered
-    Frames,
-    // its frames, as other symbolizers write them
-    Stack,
-}
-
 #[derive(Drop)]
 pub struct Options {
     pub paths: Vec<String>,
-    pub addresses: Vec<u32>,
-    pub form: Form,
-    pub pairs: Vec<(u32, u32)>,
-    // the list of functions is answered too
-    pub list: bool,
-    // the answers are compared with those of fresh resolvers
-    pub check: bool,
-    // what a context holds is not printed
-    pub only_answers: bool,
+    pub asked: Asked,
 }
 
 // Where no path is given, standard input is read. The runtime is no part of the input: it gives the heap and the arguments too.
@@ -40,12 +22,7 @@ pub fn read_options(rt: &HostRuntime, input: &mut Input) -> Result<Options, Fail
     let heap = rt.alloc();
     let mut options = Options {
         paths: Vec::new(heap),
-        addresses: Vec::new(heap),
-        form: Form::Function,
-        pairs: Vec::new(heap),
-        list: false,
-        check: false,
-        only_answers: false,
+        asked: Asked::nothing(heap),
     };
     let mut args = env::args(rt).map_err(|error| wrong(heap, "resolve", error))?;
     let _program = args.next();
@@ -74,23 +51,28 @@ impl Options {
         match word.as_str() {
             option @ "--address" => {
                 let address = address_after(heap, option, rest)?;
-                self.addresses.push(address)?;
+                self.asked.addresses.push(address)?;
             }
             option @ "--addresses" => {
                 let path = word_after(heap, option, rest)?;
                 let bytes = input.read(rt, path.as_str())?;
-                read_addresses(heap, &mut self.addresses, path.as_str(), bytes.as_slice())?;
+                read_addresses(
+                    heap,
+                    &mut self.asked.addresses,
+                    path.as_str(),
+                    bytes.as_slice(),
+                )?;
             }
             option @ "--same" => {
                 let first = address_after(heap, option, rest)?;
                 let second = address_after(heap, option, rest)?;
-                self.pairs.push((first, second))?;
+                self.asked.pairs.push((first, second))?;
             }
-            "--frames" => self.form = Form::Frames,
-            "--stack" => self.form = Form::Stack,
-            "--list" => self.list = true,
-            "--check" => self.check = true,
-            "--answers" => self.only_answers = true,
+            "--frames" => self.asked.form = Form::Frames,
+            "--stack" => self.asked.form = Form::Stack,
+            "--list" => self.asked.list = true,
+            "--check" => self.asked.check = true,
+            "--answers" => self.asked.only_answers = true,
             option if option.starts_with("--") => {
                 return Err(wrong_word(heap, option, Flaw::UnknownOption));
             }

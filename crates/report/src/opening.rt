@@ -1,8 +1,10 @@
-// The provider of an image, over the rows of its description.
+// The provider of an image, over the rows of its description, and the context that is built from it.
 ghost use Rattle.std.specs.Prelude.{◌≡◌};
 ghost use Rattle.rows.specs.Tables.{meaning_of};
 
 use base::refusal::Refusal;
+use context::build::build;
+use context::tables::{Context, Tables};
 use description::Description;
 use hiding::Hiding;
 use modules::tables::ModuleRows;
@@ -17,6 +19,17 @@ pub fn open(description: &Description) -> Result<Hiding<RowProvider<'_>>, Refusa
         layer.hide(*module)?;
     }
     Ok(layer)
+}
+
+// Opens the provider, and builds the context in tables that are given.
+pub fn open_built<'a, 't>(
+    description: &'a Description,
+    tables: &mut Tables<'t>,
+    context: &mut Context<'t>,
+) -> Result<Hiding<RowProvider<'a>>, Refusal> {
+    let provider = open(description)?;
+    build(&provider, tables, context)?;
+    Ok(provider)
 }
 
 fn rows_of(description: &Description) -> ImageRows<'_>

@@ -1,76 +1,34 @@
-// What is printed for an image: its context, and the answers to what is asked of it.
+// The answers to what is asked of an image.
+use crate::asked::{Asked, Form};
 use crate::check::write_check;
-use crate::failure::Failure;
-use crate::opening::open;
-use crate::options::{Form, Options};
 use crate::parts::write_refusal;
-use crate::print::write_context;
 use crate::reply::{write_call, write_reply};
 use crate::stack_lines::write_stack;
 use addresses::Address;
-use base::context::{Contribution, KnownStart};
 use base::refusal::Refusal;
-use context::build::build;
-use context::tables::{Context, Tables};
+use context::tables::Context;
 use description::Description;
 use description::question::Question;
 use frames::frame::Frame;
-use hiding::Hiding;
 use procedures::function::Function;
 use provider::ModuleProvider;
 use resolver::resolver::Resolver;
-use row_provider::RowProvider;
 use std::alloc::{AllocError, Global};
 use std::fmt::Write;
 use succession::answers::answer_all;
 use succession::calls::{Answer, Call, CallTables};
 
-// Why an image is refused, or its context and then the answers.
-pub fn write_image(
-    heap: Global,
-    out: &mut String,
-    description: &Description,
-    options: &Options,
-) -> Result<(), Failure> {
-    let mut starts = vec![in heap; KnownStart::empty(); description.start_rows]?;
-    let mut contributions = vec![in heap; Contribution::empty(); description.contribution_rows]?;
-    let mut tables = Tables {
-        starts: starts.as_mut_slice(),
-        contributions: contributions.as_mut_slice(),
-    };
-    let mut context = Context::empty();
-    let provider = match open_built(description, &mut tables, &mut context) {
-        Ok(provider) => provider,
-        Err(refusal) => return Ok(write_refusal(out, &refusal)?),
-    };
-    if !options.only_answers {
-        write_context(out, description.text.as_slice(), &context)?;
-    }
-    write_answers(heap, out, provider, &context, description, options)
-}
-
-// The provider of an image, from which its context is built.
-fn open_built<'a, 't>(
-    description: &'a Description,
-    tables: &mut Tables<'t>,
-    context: &mut Context<'t>,
-) -> Result<Hiding<RowProvider<'a>>, Refusal> {
-    let provider = open(description)?;
-    build(&provider, tables, context)?;
-    Ok(provider)
-}
-
-// First what the description asks, then what the command line does.
-fn write_answers<P: ModuleProvider + Drop>(
+// First what the description asks, then what else is asked.
+pub fn write_answers<P: ModuleProvider + Drop>(
     heap: Global,
     out: &mut String,
     provider: P,
     context: &Context<'_>,
     description: &Description,
-    options: &Options,
-) -> Result<(), Failure> {
-    let addresses = options.addresses.as_slice();
-    let of_functions = match options.form {
+    asked: &Asked,
+) -> Result<(), AllocError> {
+    let addresses = asked.addresses.as_slice();
+    let of_functions = match asked.form {
         Form::Function => addresses,
         Form::Frames | Form::Stack => &[],
     };
@@ -90,17 +48,17 @@ fn write_answers<P: ModuleProvider + Drop>(
         &mut resolver,
         context,
         &mut tables,
-        options,
+        asked,
         found.as_slice(),
     )?;
-    for (first, second) in options.pairs.iter() {
+    for (first, second) in asked.pairs.iter() {
         write_same(out, &mut resolver, context, *first, *second)?;
     }
-    if options.list {
+    if asked.list {
         write_call(out, &mut resolver, context, Call::Functions, &mut tables)?;
     }
-    if options.check {
-        let asked = asked_addresses(heap, description, addresses)?;
+    if asked.check {
+        let checked = checked_addresses(heap, description, addresses)?;
         write_check(
             heap,
             out,
@@ -108,23 +66,23 @@ fn write_answers<P: ModuleProvider + Drop>(
             context,
             &mut tables,
             description,
-            asked.as_slice(),
+            checked.as_slice(),
         )?;
     }
     Ok(())
 }
 
-// The addresses of the command line, in the form that it wants. Those in the form of functions have been looked up.
+// The addresses, in the form that is wanted. Those in the form of functions have been looked up.
 fn write_addresses<P: ModuleProvider>(
     out: &mut String,
     resolver: &mut Resolver<P>,
     context: &Context<'_>,
     tables: &mut CallTables<'_>,
-    options: &Options,
+    asked: &Asked,
     found: &[Result<Option<Function>, Refusal>],
 ) -> Result<(), AllocError> {
-    let addresses = options.addresses.as_slice();
-    match options.form {
+    let addresses = asked.addresses.as_slice();
+    match asked.form {
         Form::Function => {
             for (address, found) in addresses.iter().zip(found.iter()) {
                 let call = Call::FindFunction(*address);
@@ -188,20 +146,20 @@ fn write_same<P: ModuleProvider>(
     }
 }
 
-// The addresses of the rows `find` and `frames`, and then those of the command line.
-fn asked_addresses(
+// The addresses of the rows `find` and `frames`, and then the others.
+fn checked_addresses(
     heap: Global,
     description: &Description,
     addresses: &[u32],
 ) -> Result<Vec<u32>, AllocError> {
-    let mut asked = Vec::new(heap);
+    let mut checked = Vec::new(heap);
     for question in description.questions.iter() {
         if let Question::Find(address) | Question::Frames(address) = *question {
-            asked.push(address)?;
+            checked.push(address)?;
         }
     }
     for address in addresses {
-        asked.push(*address)?;
+        checked.push(*address)?;
     }
-    Ok(asked)
+    Ok(checked)
 }

@@ -1,6 +1,5 @@
 // Whether what was answered before makes a difference. Calls are made on the resolver at hand and on fresh ones, and the answers are compared as
 // they are printed.
-use crate::failure::Failure;
 use crate::opening::open;
 use crate::parts::write_refusal;
 use crate::reply::{write_call, write_reply};
@@ -60,10 +59,10 @@ pub fn write_check<P: ModuleProvider>(
     tables: &mut CallTables<'_>,
     description: &Description,
     addresses: &[u32],
-) -> Result<(), Failure> {
+) -> Result<(), AllocError> {
     let provider = match open(description) {
         Ok(provider) => provider,
-        Err(refusal) => return Ok(write_refusal(out, &refusal)?),
+        Err(refusal) => return write_refusal(out, &refusal),
     };
     let fresh = Fresh {
         provider,
@@ -72,8 +71,7 @@ pub fn write_check<P: ModuleProvider>(
     };
     let fresh = check_addresses(heap, out, resolver, context, tables, fresh, addresses)?;
     writeln!(out, "checked {} addresses", addresses.len())?;
-    check_list(heap, out, resolver, context, tables, fresh, addresses)?;
-    Ok(())
+    check_list(heap, out, resolver, context, tables, fresh, addresses)
 }
 
 fn check_addresses<P: ModuleProvider, F: ModuleProvider + Drop>(

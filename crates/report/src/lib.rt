@@ -1,0 +1,47 @@
+// What is printed for a described image: what its context holds, and the answers to what is asked of it. docs/FORMAT.md says how.
+#![tactic(auto)]
+
+mod answers;
+pub mod asked;
+mod check;
+mod frame_lines;
+mod list;
+mod opening;
+mod parts;
+mod print;
+mod reply;
+mod stack_lines;
+
+use crate::answers::write_answers;
+use crate::asked::Asked;
+use crate::opening::open_built;
+use crate::parts::write_refusal;
+use crate::print::write_context;
+use base::context::{Contribution, KnownStart};
+use context::tables::{Context, Tables};
+use description::Description;
+use std::alloc::{AllocError, Global};
+
+// Why an image is refused, or its context and then the answers.
+pub fn write_image(
+    heap: Global,
+    out: &mut String,
+    description: &Description,
+    asked: &Asked,
+) -> Result<(), AllocError> {
+    let mut starts = vec![in heap; KnownStart::empty(); description.start_rows]?;
+    let mut contributions = vec![in heap; Contribution::empty(); description.contribution_rows]?;
+    let mut tables = Tables {
+        starts: starts.as_mut_slice(),
+        contributions: contributions.as_mut_slice(),
+    };
+    let mut context = Context::empty();
+    let provider = match open_built(description, &mut tables, &mut context) {
+        Ok(provider) => provider,
+        Err(refusal) => return write_refusal(out, &refusal),
+    };
+    if !asked.only_answers {
+        write_context(out, description.text.as_slice(), &context)?;
+    }
+    write_answers(heap, out, provider, &context, description, asked)
+}
