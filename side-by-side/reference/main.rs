@@ -1,13 +1,14 @@
 //! Builds the original's context of each image that is described, and prints what it holds and answers, in the words of
-//! docs/FORMAT.md: reference [--one-context] PATH..
+//! docs/FORMAT.md: reference [--one-context] [--function-count] PATH..
 //! Each question is asked of a new context, or with --one-context all of one, which shows what the original keeps.
+//! The count of functions is that of the named starts, or with --function-count what the original's call of this name answers.
 
 mod description;
 
 use description::{Description, Question};
 use pdb::PDB;
 use pdb_addr2line::maybe_owned::MaybeOwned;
-use pdb_addr2line::{held, Context, ContextPdbData, Error, Frame, Function, Listing};
+use pdb_addr2line::{held, named_starts, Context, ContextPdbData, Error, Frame, Function, Listing};
 use std::fmt::Write as _;
 use std::fs::File;
 use std::io::Write as _;
@@ -17,15 +18,22 @@ fn main() {
     std::panic::set_hook(Box::new(|_| {}));
     let mut out = std::io::stdout().lock();
     let mut paths = std::env::args().skip(1).peekable();
-    let one_context = paths.next_if(|word| word == "--one-context").is_some();
+    let mut option = |name: &str| paths.next_if(|word| word == name).is_some();
+    let options = Options { one_context: option("--one-context"), function_count: option("--function-count") };
     for path in paths {
         let bytes = std::fs::read(&path).map_err(|error| error.to_string());
         let image = match bytes.and_then(|bytes| description::read(&bytes)) {
-            Ok(description) => image_lines(&description, one_context),
+            Ok(description) => image_lines(&description, options),
             Err(error) => format!("unread: {error}\n"),
         };
         write!(out, "image {path}\n{image}").expect("standard output can be written");
     }
+}
+
+#[derive(Clone, Copy)]
+struct Options {
+    one_context: bool,
+    function_count: bool,
 }
 
 /// What a piece of work prints, or that the original panicked in it.
@@ -33,7 +41,7 @@ fn caught(work: impl FnOnce() -> String) -> String {
     catch_unwind(AssertUnwindSafe(work)).unwrap_or("panicked\n".into())
 }
 
-fn image_lines(description: &Description, one_context: bool) -> String {
+fn image_lines(description: &Description, options: Options) -> String {
     caught(|| {
         let data = ContextPdbData::try_from_pdb(PDB::<File>::over(&description.image)).unwrap();
         let context = match data.make_context() {
@@ -47,7 +55,9 @@ fn image_lines(description: &Description, one_context: bool) -> String {
             writeln!(lines, "section {number} {address:#x} {size:#x} {kind}").unwrap();
         }
         lines += &held(&context);
-        let ask = || match one_context {
+        let count = if options.function_count { context.function_count() } else { named_starts(&context) };
+        writeln!(lines, "functions {count}").unwrap();
+        let ask = || match options.one_context {
             true => MaybeOwned::Borrowed(&context),
             false => MaybeOwned::Owned(data.make_context().expect("it was built before")),
         };

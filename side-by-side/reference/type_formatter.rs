@@ -56,7 +56,7 @@ impl<'a, 's> TypeFormatter<'a, 's> {
     }
 }
 
-/// The lines that say what a context holds, without its sections.
+/// The lines that say what a context holds, without its sections and the count of functions.
 pub fn held(context: &Context) -> String {
     let mut lines = String::new();
     for block in &context.section_contributions {
@@ -72,8 +72,12 @@ pub fn held(context: &Context) -> String {
         }
         lines.push('\n');
     }
-    let named = context.global_functions.iter().filter(|start| start.name.is_some());
-    lines + &format!("functions {}\n", named.count())
+    lines
+}
+
+/// What the port counts as functions.
+pub fn named_starts(context: &Context) -> usize {
+    context.global_functions.iter().filter(|start| start.name.is_some()).count()
 }
 
 /// The original's list of functions: its addresses, and how far the original's iterator went over them.

@@ -1,0 +1,63 @@
+// What the port answers about the images of a list, where it differs.
+use crate::agree::agree;
+use crate::entry::Entry;
+use description::read_description;
+use report::asked::Asked;
+use report::write_image;
+use std::alloc::{AllocError, Global};
+use std::fmt::Write;
+
+// The images that differ, and then how many images and lines the list has.
+pub fn write_replayed(
+    heap: Global,
+    out: &mut String,
+    path: &str,
+    entries: &[Entry<'_>],
+) -> Result<(), AllocError> {
+    let mut lines = 0usize;
+    let mut different = 0usize;
+    for entry in entries {
+        lines = lines.saturating_add(entry.answers.len());
+        if write_entry(heap, out, entry)? {
+            different = different.saturating_add(1);
+        }
+    }
+    let images = entries.len();
+    writeln!(
+        out,
+        "{path}: {images} images, {lines} lines, {different} images differ"
+    )
+}
+
+// Whether the image differs. If so, the lines of both are written from the first that differs on.
+fn write_entry(heap: Global, out: &mut String, entry: &Entry<'_>) -> Result<bool, AllocError> {
+    let printed = answered(heap, entry.description.as_str())?;
+    let known = entry.answers.as_slice();
+    let port: Vec<&str> = printed.as_str().lines().collect(heap)?;
+    let same = known
+        .iter()
+        .zip(port.iter())
+        .take_while(|(known, port)| agree(known, port))
+        .count();
+    if same == known.len() && same == port.len() {
+        return Ok(false);
+    }
+    writeln!(out, "differs: {}", entry.title)?;
+    for line in known.iter().skip(same) {
+        writeln!(out, "  list {line}")?;
+    }
+    for line in port.iter().skip(same) {
+        writeln!(out, "  port {line}")?;
+    }
+    Ok(true)
+}
+
+// What is printed for the image of a description, or what is wrong with it.
+fn answered(heap: Global, description: &str) -> Result<String, AllocError> {
+    let mut out = String::new(heap);
+    match read_description(heap, description.as_bytes()) {
+        Ok(description) => write_image(heap, &mut out, &description, &Asked::nothing(heap))?,
+        Err(error) => writeln!(out, "unread: {error}")?,
+    }
+    Ok(out)
+}
