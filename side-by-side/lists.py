@@ -4,6 +4,7 @@
     lists.py random REFERENCE LIST          makes images as generate.py does, and asks the original
     lists.py again REFERENCE DEBUG LIST     asks the original anew about the images that a list has
     lists.py real RESOLVE FOLDER LIST       asks `resolve` about the images of a folder, here real/images
+    lists.py expected RESOLVE LIST..        prints what `replay` has to print, by what `resolve` answers
 
 DEBUG is the original built with -C debug-assertions=on. It is asked where an image's title ends in `, debug`. Where it ends in
 `, one context`, all is asked of one context of the original, and where it ends in `, function_count` its own count is printed.
@@ -18,6 +19,7 @@ import subprocess
 import sys
 import tempfile
 
+import compare
 import generate
 
 # How many images of each family. Of 65,537 modules one image alone would be longer than the list.
@@ -64,23 +66,25 @@ def write(path, comment, images):
 
 
 def read(path):
-    """The comment of a list, and the titles and descriptions of its images."""
+    """The comment of a list, and of its images the titles, the descriptions and what was answered."""
     comment, images = [], []
     with open(path, encoding="ascii") as text:
         for line in text.read().splitlines():
             if line.startswith("# "):
                 comment.append(line[2:])
             elif line.startswith("image "):
-                images.append((line[6:], []))
+                images.append((line[6:], [], []))
             elif line.startswith("< "):
                 images[-1][1].append(line[2:])
+            elif line.startswith("> "):
+                images[-1][2].append(line[2:])
     return comment, images
 
 
-def made(seed):
+def made():
     for name, count in COUNTS.items():
         images, _ = generate.FAMILIES[name]
-        rng = random.Random("%d %s" % (seed, name))
+        rng = random.Random("lists " + name)
         agreed = filter(generate.within, itertools.islice(images(rng), 0, None, THINNED.get(name, 1)))
         for number, image in enumerate(itertools.islice(agreed, count)):
             description = list(generate.described(image))
@@ -93,11 +97,10 @@ def write_random(options):
         "What pdb-addr2line 0.12.1 answers about images within the port's limits. side-by-side/lists.py wrote it,",
         "by the original's own source.",
     ]
-    asked = made(options.seed)
-    write(options.list, comment, ((*image, answers([options.reference], image[1])) for image in asked))
+    write(options.list, comment, ((*image, answers([options.reference], image[1])) for image in made()))
 
 
-def asked_anew(options, title, description):
+def asked_anew(options, title, description, _):
     program = [options.debug if title.endswith(", debug") else options.reference]
     for option in ("one context", "function_count"):
         if title.endswith(", " + option):
@@ -153,6 +156,21 @@ def write_real(options):
     write(options.list, comment, [real_image(options, name) for name in names])
 
 
+def print_expected(options):
+    for path in options.lists:
+        images, different = read(path)[1], 0
+        for title, description, lines in images:
+            port = answers([options.resolve], description)
+            same = sum(1 for _ in itertools.takewhile(lambda pair: compare.agree(*pair), zip(lines, port)))
+            if not same == len(lines) == len(port):
+                different += 1
+                print("differs: " + title)
+                print("".join("  list %s\n" % line for line in lines[same:]), end="")
+                print("".join("  port %s\n" % line for line in port[same:]), end="")
+        counts = len(images), sum(len(image[2]) for image in images), different
+        print("%s: %d images, %d lines, %d images differ" % (os.path.basename(path), *counts))
+
+
 def main():
     parser = argparse.ArgumentParser(description=__doc__, formatter_class=argparse.RawDescriptionHelpFormatter)
     kinds = parser.add_subparsers(required=True)
@@ -164,8 +182,11 @@ def main():
         one = kinds.add_parser(kind)
         for word in [*words, "list"]:
             one.add_argument(word)
-        one.add_argument("--seed", type=int, default=1)
         one.set_defaults(does=does)
+    one = kinds.add_parser("expected")
+    one.add_argument("resolve")
+    one.add_argument("lists", nargs="+")
+    one.set_defaults(does=print_expected)
     options = parser.parse_args()
     options.does(options)
 
