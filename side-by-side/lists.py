@@ -22,12 +22,10 @@ import tempfile
 import compare
 import generate
 
-# How many images of each family. Of 65,537 modules one image alone would be longer than the list.
+# Of a family that has all images of a kind, one of each so many is taken.
+THINNED = {"contributions": 641, "starts": 181, "procedures": 367, "sites": 1201}
+# How many images of the other families. Of 65,536 modules one image alone would be longer than the list.
 COUNTS = {
-    "contributions": 33,
-    "starts": 24,
-    "procedures": 26,
-    "sites": 28,
     "small": 45,
     "middle": 7,
     "large": 1,
@@ -39,8 +37,6 @@ COUNTS = {
     "limit-top": 9,
     "limit-hidden": 3,
 }
-# Of a family that has all images of a kind, each of so many is taken.
-THINNED = {"contributions": 97, "starts": 101, "procedures": 103, "sites": 107}
 MOST_ADDRESSES = 5
 
 
@@ -82,11 +78,11 @@ def read(path):
 
 
 def made():
-    for name, count in COUNTS.items():
+    for name in [*THINNED, *COUNTS]:
         images, _ = generate.FAMILIES[name]
         rng = random.Random("lists " + name)
         agreed = filter(generate.within, itertools.islice(images(rng), 0, None, THINNED.get(name, 1)))
-        for number, image in enumerate(itertools.islice(agreed, count)):
+        for number, image in enumerate(itertools.islice(agreed, COUNTS.get(name))):
             description = list(generate.described(image))
             description += generate.questions(image, rng, MOST_ADDRESSES, False)
             yield "%s %d" % (name, number), description
