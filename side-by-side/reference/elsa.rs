@@ -1,42 +1,38 @@
-//! Stands in for the crate of this name: a map that only grows, so that what it lends stays in place.
+//! Stands in for the crate of this name: a map that only grows, so that what it lends stays in place. The keys are the numbers of modules.
 
 pub mod sync {
+    use std::marker::PhantomData;
     use std::ops::Deref;
     use std::sync::OnceLock;
 
-    /// A chain of entries. Each is set once, behind a shared reference.
+    /// A square of this side has a place for each number that a module can have.
+    const SIDE: usize = 512;
+
+    /// Rows of places. Each is made once, behind a shared reference, and so is what stands in it.
     pub struct FrozenMap<K, V> {
-        first: OnceLock<Box<Entry<K, V>>>,
+        rows: Places<Places<V>>,
+        keys: PhantomData<K>,
     }
 
-    struct Entry<K, V> {
-        key: K,
-        value: V,
-        rest: FrozenMap<K, V>,
+    type Places<T> = Box<[OnceLock<T>]>;
+
+    fn places<T>() -> Places<T> {
+        (0..SIDE).map(|_| OnceLock::new()).collect()
     }
 
-    impl<K: PartialEq, V: Deref> FrozenMap<K, V> {
+    impl<V: Deref> FrozenMap<usize, V> {
         pub fn new() -> Self {
-            FrozenMap { first: OnceLock::new() }
+            FrozenMap { rows: places(), keys: PhantomData }
         }
 
-        pub fn get(&self, key: &K) -> Option<&V::Target> {
-            let entry = self.first.get()?;
-            if entry.key == *key {
-                Some(&*entry.value)
-            } else {
-                entry.rest.get(key)
-            }
+        pub fn get(&self, key: &usize) -> Option<&V::Target> {
+            let row = self.rows[key / SIDE].get()?;
+            row[key % SIDE].get().map(|value| &**value)
         }
 
-        pub fn insert(&self, key: K, value: V) -> &V::Target {
-            match self.first.get() {
-                Some(entry) => entry.rest.insert(key, value),
-                None => {
-                    let entry = Entry { key, value, rest: FrozenMap::new() };
-                    &*self.first.get_or_init(|| Box::new(entry)).value
-                }
-            }
+        pub fn insert(&self, key: usize, value: V) -> &V::Target {
+            let row = self.rows[key / SIDE].get_or_init(places);
+            &**row[key % SIDE].get_or_init(|| value)
         }
     }
 }

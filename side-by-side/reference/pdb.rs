@@ -1,4 +1,5 @@
-//! Stands in for the crate of this name: what the original asks of it, answered from an image that was described.
+//! Stands in for the crate of this name: what the original asks of it, answered from an image that was described. With `--cfg plain` names come
+//! without quotes and escapes and, as of the crate itself, where they can without being copied.
 
 use std::borrow::Cow;
 use std::collections::HashMap;
@@ -258,7 +259,7 @@ impl<'s, S: Source<'s>> PDB<'s, S> {
     }
 
     pub fn string_table(&mut self) -> Result<StringTable<'s>> {
-        Ok(StringTable(PhantomData))
+        Ok(StringTable(&self.image.text))
     }
 
     pub fn sections(&mut self) -> Result<Option<Vec<ImageSectionHeader>>> {
@@ -277,7 +278,7 @@ impl<'s, S: Source<'s>> PDB<'s, S> {
 
 pub struct TypeInformation<'s>(PhantomData<&'s ()>);
 pub struct IdInformation<'s>(PhantomData<&'s ()>);
-pub struct StringTable<'s>(PhantomData<&'s ()>);
+pub struct StringTable<'s>(&'s [u8]);
 
 pub struct SymbolTable<'s> {
     image: &'s Image,
@@ -356,7 +357,7 @@ impl<'s> ModuleInfo<'s> {
 
     pub fn line_program(&self) -> Result<LineProgram<'_>> {
         self.extras(0)?;
-        Ok(LineProgram { text: self.text, rows: self.rows })
+        Ok(LineProgram { rows: self.rows })
     }
 
     pub fn inlinees(&self) -> Result<InlineeIter<'_>> {
@@ -376,7 +377,6 @@ pub struct LineInfo {
 static NOTHING: List<LineInfo> = List { items: Vec::new(), fault: None };
 
 pub struct LineProgram<'m> {
-    text: &'m [u8],
     rows: &'m ModuleRows,
 }
 
@@ -385,13 +385,9 @@ impl<'m> LineProgram<'m> {
         Items::of(self.rows.lines.get(&offset).unwrap_or(&NOTHING), "line rows")
     }
 
-    /// Every number is answered, so that what is printed can tell a file without a name from no file.
     pub fn get_file_info(&self, index: FileIndex) -> Result<FileInfo> {
-        let name = match self.rows.files.get(&index) {
-            Some(part) => RawString(part.of(self.text)).to_string(),
-            None => Cow::from("unnamed"),
-        };
-        Ok(FileInfo { name: StringRef(format!("file {} {name}", index.0)) })
+        let part = self.rows.files.get(&index).copied();
+        Ok(FileInfo { name: StringRef { index, part } })
     }
 }
 
@@ -399,11 +395,20 @@ pub struct FileInfo {
     pub name: StringRef,
 }
 
-pub struct StringRef(String);
+pub struct StringRef {
+    index: FileIndex,
+    part: Option<Part>,
+}
 
 impl StringRef {
-    pub fn to_string_lossy<'s>(&self, _: &'s StringTable) -> Result<Cow<'s, str>> {
-        Ok(Cow::Owned(self.0.clone()))
+    /// Every number is answered, so that what is printed can tell a file without a name from no file.
+    pub fn to_string_lossy<'s>(&self, table: &'s StringTable) -> Result<Cow<'s, str>> {
+        let name = self.part.map(|part| RawString(part.of(table.0)).to_string());
+        if cfg!(plain) {
+            return name.ok_or(Error::Unparsed);
+        }
+        let name = name.unwrap_or("unnamed".into());
+        Ok(Cow::Owned(format!("file {} {name}", self.index.0)))
     }
 }
 
@@ -601,6 +606,9 @@ impl<'t> RawString<'t> {
 
     /// The name as it is printed: in quotes, with escapes, so that no byte is lost.
     pub fn to_string(&self) -> Cow<'t, str> {
+        if cfg!(plain) {
+            return String::from_utf8_lossy(self.0);
+        }
         Cow::Owned(quoted(self.0))
     }
 }

@@ -1,6 +1,6 @@
 //! Stands in for the original's module of this name. A name is handed back with what it was asked for with, so that
-//! it can be told from a name that the original did not have formatted. Standing inside the original's crate, this
-//! module also sees what a context holds.
+//! it can be told from a name that the original did not have formatted; with `--cfg plain` alone. Standing inside the original's
+//! crate, this module also sees what a context holds.
 
 use crate::{Context, Error, Function, FunctionIter};
 use pdb::{
@@ -48,6 +48,9 @@ impl<'a, 's> TypeFormatter<'a, 's> {
         module: usize,
         number: TypeIndex,
     ) -> Result<String, Error> {
+        if cfg!(plain) {
+            return Ok(name.into());
+        }
         Ok(format!("typed {name} module {module} type {}", number.0))
     }
 
@@ -78,6 +81,11 @@ pub fn held(context: &Context) -> String {
 /// What the port counts as functions.
 pub fn named_starts(context: &Context) -> usize {
     context.global_functions.iter().filter(|start| start.name.is_some()).count()
+}
+
+/// How many contributions a context holds.
+pub fn contribution_count(context: &Context) -> usize {
+    context.section_contributions.len()
 }
 
 /// The original's list of functions: its addresses, and how far the original's iterator went over them.
