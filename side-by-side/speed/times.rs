@@ -154,15 +154,15 @@ struct Places<'i> {
 }
 
 impl Places<'_> {
-    fn number(&mut self) -> u64 {
+    fn number(&mut self) -> u32 {
         self.state = self.state.wrapping_mul(6_364_136_223_846_793_005).wrapping_add(1_442_695_040_888_963_407);
-        self.state >> 33
+        (self.state >> 32) as u32
     }
 
     /// One address, if there are contributions.
     fn address(&mut self, rows: &[DBISectionContribution]) -> Option<u32> {
-        let chosen = self.number().checked_rem(rows.len() as u64)? as usize;
-        let place = self.number().checked_rem(rows[chosen].size.into()).unwrap_or(0) as u32;
+        let chosen = (self.number() as usize).checked_rem(rows.len())?;
+        let place = self.number().checked_rem(rows[chosen].size).unwrap_or(0);
         let offset = rows[chosen].offset;
         let section = usize::from(offset.section).checked_sub(1).and_then(|index| self.image.sections.get(index));
         let address = section.map_or(0, |section| section.virtual_address);

@@ -6,7 +6,7 @@ pub mod asked;
 mod check;
 mod frame_lines;
 mod list;
-mod opening;
+pub mod opening;
 mod parts;
 mod print;
 mod reply;

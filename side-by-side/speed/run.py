@@ -1,0 +1,161 @@
+#!/usr/bin/env python3
+"""Times the port and the original on the same images, and prints tables in Markdown: run.py BENCH RESOLVE TIMES FOLDER [--runs N] [--most N]
+
+BENCH and RESOLVE are the programs of crates/bench and crates/resolve, TIMES is what build.sh made. The images are written into FOLDER, those that
+are not there yet, of at most so many functions as --most says. Each program is run --runs times, in turn with the other, and of each part the
+least time counts; a program that took more than a minute is not run again. The status is 1 if the two do not answer the same.
+"""
+
+import argparse
+import datetime
+import os
+import platform
+import subprocess
+import sys
+import time
+
+import generate
+
+KINDS = {
+    "random": [1_000, 10_000, 100_000, 1_000_000],
+    "rising": [1_000, 10_000, 100_000, 1_000_000],
+    "deep8": [1_000, 10_000, 100_000],
+    "deep31": [1_000, 10_000],
+}
+
+# What a part's line begins with, what it is called, and of how many answers the time is that is told; of 1 for the whole.
+PARTS = {
+    "read": "reading the description",
+    "build": "building",
+    "cold": "a lookup, cold",
+    "near": "a lookup, one module",
+    "far": "a lookup, any module",
+    "near-frames": "frames, one module",
+    "far-frames": "frames, any module",
+    "list": "the list of functions",
+    "cursor": "a step of its cursor",
+}
+WHOLE = ("read", "build", "list")
+LONG = 60
+
+
+class Run:
+    """What a program printed, and what it took."""
+
+    def __init__(self, command):
+        begun = time.perf_counter()
+        process = subprocess.Popen(command, stdout=subprocess.PIPE)
+        self.lines = process.stdout.read().decode().splitlines()
+        _, status, used = os.wait4(process.pid, 0)
+        self.seconds = time.perf_counter() - begun
+        self.kilobytes = used.ru_maxrss
+        if status:
+            raise SystemExit(f"{' '.join(command)}: status {status}")
+
+    def answers(self):
+        return [line.partition(" nanoseconds ")[0] for line in self.lines]
+
+    def times(self):
+        """By part the nanoseconds, for each answer."""
+        times = {}
+        for line in self.lines[1:]:
+            words = line.split()
+            count = 1 if words[0] in WHOLE else int(words[words.index("found") + 1])
+            times[words[0]] = int(words[-1]) / max(count, 1)
+        return times
+
+
+def in_turn(first, second, runs):
+    """Runs two commands in turn, and answers with the runs of each."""
+    done = ([], [])
+    for _ in range(runs):
+        for command, so_far in zip((first, second), done):
+            if not so_far or so_far[-1].seconds < LONG:
+                so_far.append(Run(command))
+    return done
+
+
+def least(runs):
+    of_all = [run.times() for run in runs]
+    return {part: min(times[part] for times in of_all) for part in of_all[0]}
+
+
+def shown(nanoseconds):
+    for unit, size in (("s", 1e9), ("ms", 1e6), ("µs", 1e3)):
+        if nanoseconds >= size:
+            return f"{nanoseconds / size:.3g} {unit}"
+    return f"{nanoseconds:.0f} ns"
+
+
+def cell(ours, theirs):
+    return f"{shown(ours)}, {shown(theirs)}: **{ours / theirs:.2g}**"
+
+
+def table(kind, columns, rows):
+    """`columns` are counts of functions, and `rows` names with a cell for each."""
+    print(f"\n| `{kind}` |", " | ".join(f"{functions:,}" for functions in columns), "|")
+    print("|---" * (len(columns) + 1) + "|")
+    for name, cells in rows:
+        print(f"| {name} |", " | ".join(cells), "|")
+
+
+def whole(resolve, times, path, address, runs):
+    """Seconds and memory of two processes that read, build and answer one address."""
+    ours = [resolve, "--answers", "--address", str(address), path]
+    theirs = [times, "--address", str(address), path]
+    done = in_turn(ours, theirs, runs)
+    for run in done:
+        if " function " not in run[0].lines[1]:
+            raise SystemExit(f"{path}: {address} is answered with {run[0].lines[1]}")
+    return [(min(run.seconds for run in of_one), min(run.kilobytes for run in of_one)) for of_one in done]
+
+
+def measure(given, kind, functions):
+    """The cells of an image."""
+    path = os.path.join(given.folder, generate.image_name(kind, functions))
+    if not os.path.exists(path):
+        generate.write(path + ".part", kind, functions)
+        os.rename(path + ".part", path)
+    ours, theirs = in_turn([given.bench, "--times", path], [given.times, "--times", path], given.runs)
+    for run in ours + theirs:
+        if run.answers() != ours[0].answers():
+            differing = [pair for pair in zip(ours[0].answers(), run.answers()) if pair[0] != pair[1]]
+            raise SystemExit(f"{path}: the answers differ: {differing}")
+    ours, theirs = least(ours), least(theirs)
+    cells = [cell(ours[part], theirs[part]) for part in PARTS]
+    (our_time, our_size), (their_time, their_size) = whole(given.resolve, given.times, path, generate.CODE + functions, given.runs)
+    cells.append(cell(1e9 * our_time, 1e9 * their_time))
+    cells.append(f"{our_size / 1024:.0f}, {their_size / 1024:.0f}: **{our_size / their_size:.2g}**")
+    return cells
+
+
+def processor():
+    with open("/proc/cpuinfo") as lines:
+        return next((line.partition(": ")[2].strip() for line in lines if line.startswith("model name")), platform.machine())
+
+
+def main():
+    parser = argparse.ArgumentParser(description=__doc__, formatter_class=argparse.RawDescriptionHelpFormatter)
+    parser.add_argument("bench")
+    parser.add_argument("resolve")
+    parser.add_argument("times")
+    parser.add_argument("folder")
+    parser.add_argument("--runs", type=int, default=5)
+    parser.add_argument("--most", type=int, default=1_000_000)
+    given = parser.parse_args()
+    os.makedirs(given.folder, exist_ok=True)
+    load = os.getloadavg()[0]
+    print(f"{datetime.date.today()}, {processor()}, {os.cpu_count()} processors, of which {load:.1f} were busy in the minute before.")
+    names = list(PARTS.values()) + ["a process, one address", "its memory, MiB"]
+    for kind, sizes in KINDS.items():
+        sizes = [functions for functions in sizes if functions <= given.most]
+        columns = []
+        for functions in sizes:
+            print(f"{kind} {functions}", file=sys.stderr)
+            columns.append(measure(given, kind, functions))
+        table(kind, sizes, zip(names, zip(*columns)))
+        sys.stdout.flush()
+
+
+if __name__ == "__main__":
+    main()
