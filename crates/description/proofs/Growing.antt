@@ -1,10 +1,11 @@
 -- How the lists of a description grow. Assumes nothing.
 use Rattle.std.proofs.Common.{◌≡◌, ◌^◌, ◌<◌, List, [], ◌∷◌, ◌++◌, length, Some, refl, ap, ◌∙◌}
+use Rattle.std.proofs.lemmas.Option.{option_and_then_some}
 use Rattle.std.specs.Option.{option_map}
 use Rattle.description.specs.declared.row.ModulePart.{ModulePart}
 use Rattle.description.specs.Drafts.{ModuleLists, part_pushed, told_with, module_with, module_grown}
-use Rattle.description.specs.Lists.{pushed, split_last}
-use Rattle.description.proofs.Options.{at_mapped, at-then, short-short}
+use Rattle.description.specs.Lists.{split_last, last_changed}
+use Rattle.description.proofs.Options.{at_mapped, changed_short}
 
 split_push : {X : Type 0} (xs : List X) (x : X) → split_last (xs ++ x ∷ []) ≡ Some (xs, x)
 split_push [] x = refl
@@ -20,4 +21,4 @@ Grown p a b = (length b.modules < 2 ^ 32) × (part_pushed p a.parts ≡ Some b.p
 
 pub module-grown : (p : ModulePart) (a b : ModuleLists) → module_grown p a ≡ Some b → (length b.modules < 2 ^ 32) × (part_pushed p a.parts ≡ Some b.parts)
 module-grown p a b e =
-    at-then (Grown p a) (split_last a.modules) _ b e (λ q _ f. at-then (Grown p a) (told_with p a.told) _ b f (λ t _ g. at-then (Grown p a) (pushed q.0 (module_with p q.1)) _ b g (λ ms d k. at_mapped (Grown p a) _ (part_pushed p a.parts) b k (λ ps m. (short-short _ ms d, m)))))
+    option_and_then_some _ (last_changed (module_with p) a.modules) b e (λ ms d f. option_and_then_some _ (told_with p a.told) b f (λ t _ g. at_mapped (Grown p a) _ (part_pushed p a.parts) b g (λ ps m. (changed_short (module_with p) a.modules ms d, m))))

@@ -5,6 +5,7 @@ use Rattle.std.specs.List.{AllByRecursion}
 use Rattle.base.specs.declared.image.TextPart.{TextPart}
 use Rattle.provider.specs.declared.symbols.Symbol.{Symbol}
 use Rattle.provider.specs.declared.symbols.Symbol.TheVariants.{Procedure, Thunk}
+use Rattle.std.proofs.lemmas.Option.{option_and_then_some}
 use Rattle.words.specs.Quotes.{unquoted}
 use Rattle.description.specs.declared.row.ImageRow.{ImageRow}
 use Rattle.description.specs.declared.row.ImageRow.TheVariants.{Public}
@@ -13,12 +14,12 @@ use Rattle.description.specs.declared.row.ModulePart.{ModulePart}
 use Rattle.description.specs.declared.row.ModulePart.TheVariants.{Symbol as SymbolPart, SymbolsEnd, Extras, File}
 use Rattle.description.specs.declared.row.Row.{Row}
 use Rattle.description.specs.declared.row.Row.TheVariants.{Text, Image, Module, Part}
-use Rattle.description.specs.Drafts.{ImageLists, PartLists, Lists, nothing, image_added, part_pushed, row_added, line_said, said, with_text, with_modules}
+use Rattle.description.specs.Drafts.{ImageLists, PartLists, Lists, nothing, image_added, part_pushed, row_added, line_said, said}
 use Rattle.description.specs.Lists.{short, pushed, appended}
 use Rattle.description.specs.Names.{SymbolName, ImageName, PartName, RowName, Quoting, Within, Named}
 use Rattle.description.specs.Rows.{symbol_named, named}
 use Rattle.description.proofs.Growing.{module-grown}
-use Rattle.description.proofs.Options.{at_some, at_mapped, at-then, short-same}
+use Rattle.description.proofs.Options.{at_some, at_mapped, short-same}
 
 -- what a symbol, an image and a module's part have of names
 symbol_weaker : (P Q : TextPart → Type 0) → ((n : TextPart) → P n → Q n) → (s : Symbol) → SymbolName P s → SymbolName Q s
@@ -66,13 +67,13 @@ part-names P p a b e n h = at_mapped (NamedParts P) _ _ b e (λ x q. record { sy
 row_names : (r : Row) (a b : Lists) → row_added r a ≡ Some b → RowName (Within a.text) r → Named a → Named b
 row_names Text a b e n h = at_some Named a b e h
 row_names (Image r) a b e n h = at_mapped Named _ _ b e (λ x p. let k = image-names (Within a.text) r a.image x p n h.publics in search rules)
-row_names (Module s) a b e n h = at_mapped Named _ _ b e (λ x p. at_mapped (λ z. Named (with_modules a z)) _ _ x p (λ ms d. search rules))
+row_names (Module s) a b e n h = at_mapped Named _ _ b e (λ x p. at_mapped (λ z. Named (record a { modules = z })) _ _ x p (λ ms d. search rules))
 row_names (Part s) a b e n h =
     at_mapped Named _ _ b e (λ x p. let g = module-grown s a.modules x p in let k = part-names (Within a.text) s a.modules.parts x.parts g.1 n (search rules) in search rules)
 row_names r a b e n h = at_mapped Named _ _ b e (λ x p. search rules)
 
 -- names stay within a text that grows
-longer : (a : Lists) (bs : List ℕ) → Named a → Named (with_text a (a.text ++ bs))
+longer : (a : Lists) (bs : List ℕ) → Named a → Named (record a { text = a.text ++ bs })
 longer a bs h =
     let more : (n : TextPart) → Within a.text n → Within (a.text ++ bs) n = λ n w. omega (arith, length-append a.text bs) in
     record {
@@ -82,18 +83,18 @@ longer a bs h =
     }
 
 -- what is appended lies within the text
-text-names : (a : Lists) (raw : List ℕ) (q : List ℕ × TextPart) → appended raw a.text ≡ Some q → Named a → Within q.0 q.1 × Named (with_text a q.0)
+text-names : (a : Lists) (raw : List ℕ) (q : List ℕ × TextPart) → appended raw a.text ≡ Some q → Named a → Within q.0 q.1 × Named (record a { text = q.0 })
 text-names a raw q e h =
-    at-then (λ (z : List ℕ × TextPart). Within z.0 z.1 × Named (with_text a z.0)) (unquoted raw) _ q e (λ bs _ f. at_mapped (λ (z : List ℕ × TextPart). Within z.0 z.1 × Named (with_text a z.0)) _ (short (a.text ++ bs)) q f (λ new p. subst (λ (t : List ℕ). Within t (record { start = length a.text; length = length bs }) × Named (with_text a t)) (short-same (a.text ++ bs) new p) (omega (arith, length-append a.text bs), longer a bs h)))
+    option_and_then_some _ (unquoted raw) q e (λ bs _ f. at_mapped (λ (z : List ℕ × TextPart). Within z.0 z.1 × Named (record a { text = z.0 })) _ (short (a.text ++ bs)) q f (λ new p. subst (λ (t : List ℕ). Within t (record { start = length a.text; length = length bs }) × Named (record a { text = t })) (short-same (a.text ++ bs) new p) (omega (arith, length-append a.text bs), longer a bs h)))
 
 line_names : (o : Option _) (r : Row) (a b : Lists) → line_said (record { row = r; quoted = o }) a ≡ Some b → Quoting (record { row = r; quoted = o }) → Named a → Named b
 line_names None r a b e n h = row_names r a b e (row_weaker (λ _. ⊥) (Within a.text) (λ _ z. absurd z) r n) h
 line_names (Some raw) r a b e n h =
-    at-then Named (appended raw.now a.text) _ b e (λ q p f. let k = text-names a raw.now q p h in row_names (named q.1 r) (with_text a q.0) b f (row_bears (Within q.0) q.1 k.0 r) k.1)
+    option_and_then_some _ (appended raw.now a.text) b e (λ q p f. let k = text-names a raw.now q p h in row_names (named q.1 r) (record a { text = q.0 }) b f (row_bears (Within q.0) q.1 k.0 r) k.1)
 
 pub said-names : (ls : List RowLine) (a b : Lists) → said ls a ≡ Some b → AllByRecursion Quoting ls → Named a → Named b
 said-names [] a b e n h = at_some Named a b e h
-said-names (l ∷ ls) a b e n h = at-then Named (line_said l a) (said ls) b e (λ m p f. said-names ls m b f n.1 (line_names l.quoted l.row a m p n.0 h))
+said-names (l ∷ ls) a b e n h = option_and_then_some _ (line_said l a) b e (λ m p f. said-names ls m b f n.1 (line_names l.quoted l.row a m p n.0 h))
 
 pub nothing-names : Named nothing
 nothing-names = record { publics = tt; symbols = tt; files = tt }

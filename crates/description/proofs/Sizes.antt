@@ -1,6 +1,7 @@
 -- Sizes that are said are small. Assumes nothing.
 use Rattle.std.proofs.Common.{◌≡◌, ℕ, ◌^◌, ◌≤◌, List, [], ◌∷◌, Some, None, Option}
 use Rattle.std.specs.List.{AllByRecursion}
+use Rattle.std.proofs.lemmas.Option.{option_and_then_some}
 use Rattle.base.specs.declared.image.TextPart.{TextPart}
 use Rattle.description.specs.declared.row.ImageRow.{ImageRow}
 use Rattle.description.specs.declared.row.ImageRow.TheVariants.{Public, StartTable, ContributionTable, FrameTable, AddressTable}
@@ -8,10 +9,10 @@ use Rattle.description.specs.declared.row.Line.{Line as RowLine}
 use Rattle.description.specs.declared.row.Row.{Row}
 use Rattle.description.specs.declared.row.Row.TheVariants.{Text, Image}
 use Rattle.description.specs.Described.{Room}
-use Rattle.description.specs.Drafts.{ImageLists, Lists, image_added, row_added, line_said, said, with_text}
+use Rattle.description.specs.Drafts.{ImageLists, Lists, image_added, row_added, line_said, said}
 use Rattle.description.specs.Lists.{appended, once}
 use Rattle.description.specs.Rows.{FittingImage, Fitting, image_named, named}
-use Rattle.description.proofs.Options.{at_some, at_mapped, at-then}
+use Rattle.description.proofs.Options.{at_some, at_mapped}
 
 abbrev pub Roomy : ImageLists → Type 0
 Roomy a = Room a.said.start_rows × Room a.said.contribution_rows × Room a.said.frame_rows × Room a.said.address_rows
@@ -43,8 +44,8 @@ row_fits n r f = tt
 line_room : (o : Option _) (r : Row) (a b : Lists) → line_said (record { row = r; quoted = o }) a ≡ Some b → Fitting r → Roomy a.image → Roomy b.image
 line_room None r a b e f h = row_room r a b e f h
 line_room (Some raw) r a b e f h =
-    at-then (λ z. Roomy z.image) (appended raw.now a.text) _ b e (λ q p g. row_room (named q.1 r) (with_text a q.0) b g (row_fits q.1 r f) h)
+    option_and_then_some _ (appended raw.now a.text) b e (λ q p g. row_room (named q.1 r) (record a { text = q.0 }) b g (row_fits q.1 r f) h)
 
 pub said-room : (ls : List RowLine) (a b : Lists) → said ls a ≡ Some b → AllByRecursion (λ l. Fitting l.row) ls → Roomy a.image → Roomy b.image
 said-room [] a b e f h = at_some (λ z. Roomy z.image) a b e h
-said-room (l ∷ ls) a b e f h = at-then (λ z. Roomy z.image) (line_said l a) (said ls) b e (λ m p g. said-room ls m b g f.1 (line_room l.quoted l.row a m p f.0 h))
+said-room (l ∷ ls) a b e f h = option_and_then_some _ (line_said l a) b e (λ m p g. said-room ls m b g f.1 (line_room l.quoted l.row a m p f.0 h))

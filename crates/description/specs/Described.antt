@@ -1,15 +1,13 @@
 -- What a description holds. Assumes nothing.
-use Rattle.std.specs.Prelude.{◌≡◌, ℕ, ◌+◌, ◌^◌, ◌<◌, ◌≤◌, List, length, IfSome, Some, vec_items, vec_len, Option}
+use Rattle.std.specs.Prelude.{◌≡◌, ℕ, ◌+◌, ◌^◌, ◌<◌, ◌≤◌, List, length, IfSome, Some, vec_len, Option}
 use Rattle.std.specs.Option.{unwrap_or}
 use Rattle.std.specs.List.{AllByRecursion}
 use Rattle.base.specs.Lists.{clean}
 use Rattle.description.specs.declared.Description.{Description}
 use Rattle.description.specs.declared.draft.Draft.{Draft}
 use Rattle.description.specs.declared.row.Line.{Line}
-use Rattle.description.specs.declared.said.Said.{Said}
-use Rattle.description.specs.declared.said.Told.{Told}
 use Rattle.description.specs.declared.tables.ImageTables.{ImageTables}
-use Rattle.description.specs.Drafts.{ImageLists, PartLists, Lists, nothing, image_lists, part_lists, said}
+use Rattle.description.specs.Drafts.{ImageLists, PartLists, Lists, nothing, lists, said}
 use Rattle.description.specs.Names.{Quoting, Named}
 
 -- each public symbol, contribution and section may give a start
@@ -38,16 +36,6 @@ described d = record {
   modules = d.modules.tables;
   hidden = d.hidden;
   questions = d.questions;
-}
-
--- what a description holds, with what was said at most once
-abbrev pub lists_of : Description → Said → Told → Lists
-lists_of d s t = record {
-  text = vec_items d.text;
-  image = image_lists (record { tables = d.image; said = s });
-  modules = record { modules = vec_items d.modules.modules; told = t; parts = part_lists d.modules.parts };
-  hidden = vec_items d.hidden;
-  questions = vec_items d.questions;
 }
 
 -- every list is counted in 32 bits
@@ -79,16 +67,10 @@ Room o = IfSome o (λ n. n ≤ 2 ^ 24)
 -- a description holds what some rows say
 pub record Sound (d : Description) : Type 0 where
   pub rows : List Line
-  pub once : Said
-  pub told : Told
-  pub whole : said rows nothing ≡ Some (lists_of d once told)
-  pub symbols_end : d.symbols_end ≡ unwrap_or once.symbols_end clean
-  pub contributions_end : d.contributions_end ≡ unwrap_or once.contributions_end clean
-  pub start_rows : d.start_rows ≡ unwrap_or once.start_rows (starts_at_most d.image)
-  pub contribution_rows : d.contribution_rows ≡ unwrap_or once.contribution_rows (vec_len d.image.contributions)
-  pub frame_rows : d.frame_rows ≡ unwrap_or once.frame_rows most_frames
-  pub address_rows : d.address_rows ≡ unwrap_or once.address_rows (starts_at_most d.image + vec_len d.modules.parts.symbols)
-  pub room : Room once.start_rows × Room once.contribution_rows × Room once.frame_rows × Room once.address_rows
-  pub short : Short (lists_of d once told)
+  pub draft : Draft
+  pub whole : said rows nothing ≡ Some (lists draft)
+  pub described : d ≡ described draft
+  pub room : Room draft.image.said.start_rows × Room draft.image.said.contribution_rows × Room draft.image.said.frame_rows × Room draft.image.said.address_rows
+  pub short : Short (lists draft)
   -- quoted names lie within the text
-  pub names : AllByRecursion Quoting rows → Named (lists_of d once told)
+  pub names : AllByRecursion Quoting rows → Named (lists draft)

@@ -1,5 +1,6 @@
 -- What is asked of rows, and their names. Assumes nothing.
 use Rattle.std.specs.Prelude.{ℕ, ◌^◌, ◌≤◌, cond, List, Some, None, Option, nat_le}
+use Rattle.std.specs.Option.{option_and_then}
 use Rattle.std.specs.Result.{result_ok}
 use Rattle.base.specs.declared.image.TextPart.{TextPart}
 use Rattle.provider.specs.declared.symbols.Symbol.{Symbol}
@@ -13,12 +14,8 @@ use Rattle.description.specs.declared.row.Row.{Row}
 use Rattle.description.specs.declared.row.Row.TheVariants.{Image, Part}
 
 -- the number that a word writes, if it is at most `most`
-abbrev pub at_most : ℕ → Option ℕ → Option ℕ
-at_most most None = None
-at_most most (Some n) = cond (nat_le n most) (Some n) None
-
 abbrev pub bounded : List ℕ → ℕ → Option ℕ
-bounded word most = at_most most (result_ok (number_of word))
+bounded word most = option_and_then (λ n. cond (nat_le n most) (Some n) None) (result_ok (number_of word))
 
 -- a table is not said to have too many rows
 abbrev pub FittingImage : ImageRow → Type 0
@@ -39,12 +36,12 @@ symbol_named n (Thunk offset length end name) = Thunk offset length end n
 symbol_named n s = s
 
 abbrev pub image_named : TextPart → ImageRow → ImageRow
-image_named n (Public p) = Public (record { offset = p.offset; name = n })
+image_named n (Public p) = Public (record p { name = n })
 image_named n r = r
 
 abbrev pub part_named : TextPart → ModulePart → ModulePart
-part_named n (SymbolPart s) = SymbolPart (record { index = s.index; symbol = symbol_named n s.symbol })
-part_named n (File f) = File (record { number = f.number; name = n })
+part_named n (SymbolPart s) = SymbolPart (record s { symbol = symbol_named n s.symbol })
+part_named n (File f) = File (record f { name = n })
 part_named n p = p
 
 abbrev pub named : TextPart → Row → Row
