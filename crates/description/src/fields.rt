@@ -2,7 +2,7 @@
 ghost use Rattle.std.specs.Prelude.{◌^◌, ◌≤◌, IfOk};
 
 use crate::mistake::Mistake;
-use crate::word::{number_in, section_offset, small, table_rows, text_part};
+use crate::word::{keyword, number_in, section_offset, small, table_rows, text_part};
 use base::image::{Ending, FaultCode, SectionOffset, TextPart};
 use words::scan::{Scanner, Word};
 
@@ -23,7 +23,7 @@ impl<'a> Fields<'a> {
 
     // The next word, or none at the line's end.
     pub fn next(&mut self) -> Result<Option<Word<'a>>, Mistake> {
-        self.words.next_word().map_err(|_| Mistake::QuoteLeftOpen)
+        self.words.next_word().or(Err(Mistake::QuoteLeftOpen))
     }
 
     fn word(&mut self) -> Result<Word<'a>, Mistake> {
@@ -36,6 +36,10 @@ impl<'a> Fields<'a> {
             Word::Plain(word) => Ok(word),
             Word::Quoted(_) => Err(Mistake::QuotedWord),
         }
+    }
+
+    pub fn keyword(&mut self) -> Result<&'a str, Mistake> {
+        Ok(keyword(self.plain()?))
     }
 
     pub fn end(&mut self) -> Result<(), Mistake> {
@@ -88,29 +92,29 @@ impl<'a> Fields<'a> {
     pub fn length(&mut self) -> Result<Option<u32>, Mistake> {
         match self.plain()? {
             b"none" => Ok(None),
-            word => number_in(word, Mistake::NumberTooLarge).map(Some),
+            word => Ok(Some(number_in(word, Mistake::NumberTooLarge)?)),
         }
     }
 
     pub fn ending(&mut self) -> Result<Ending, Mistake> {
-        match self.plain()? {
-            b"end" => self.ended(),
+        match self.keyword()? {
+            "end" => self.ended(),
             _ => Err(Mistake::NotAnEnding),
         }
     }
 
     fn ended(&mut self) -> Result<Ending, Mistake> {
-        match self.plain()? {
-            b"clean" => Ok(Ok(())),
-            b"fault" => self.fault(),
+        match self.keyword()? {
+            "clean" => Ok(Ok(())),
+            "fault" => self.fault(),
             _ => Err(Mistake::NotAnEnding),
         }
     }
 
     pub fn extras(&mut self) -> Result<Ending, Mistake> {
-        match self.plain()? {
-            b"readable" => Ok(Ok(())),
-            b"fault" => self.fault(),
+        match self.keyword()? {
+            "readable" => Ok(Ok(())),
+            "fault" => self.fault(),
             _ => Err(Mistake::NotExtras),
         }
     }

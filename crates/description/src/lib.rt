@@ -51,7 +51,9 @@ pub fn read_description(heap: Global, input: &[u8]) -> Result<Description, ReadE
 {
     let mut draft = new_draft(heap);
     for (number, line) in (1..).zip(input.split(|b| *b == b'\n')) {
-        read_line(&mut draft, line).map_err(|error| error.at(number))?;
+        if let Err(error) = read_line(&mut draft, line) {
+            return Err(error.at(number));
+        }
     }
     Ok(finish(draft))
 }
@@ -136,5 +138,8 @@ fn most_addresses(draft: &Draft) -> usize
 fn rows_or(said: Option<u32>, enough: usize) -> usize
     ensures { result ≡ unwrap_or said enough }
 {
-    said.map_or(enough, |rows| rows as usize)
+    match said {
+        Some(rows) => rows as usize,
+        None => enough,
+    }
 }

@@ -23,7 +23,7 @@ pub fn append(text: &mut Vec<u8>, raw: &[u8]) -> Result<TextPart, AddError>
 fn text_length(text: &Vec<u8>) -> Result<u32, Mistake>
     ensures { IfOk result (λ n. n ≡ vec_len text.now) }
 {
-    u32::try_from(text.len()).map_err(|_| Mistake::TextTooLong)
+    u32::try_from(text.len()).or(Err(Mistake::TextTooLong))
 }
 
 pub fn push_row<T: Drop>(rows: &mut Vec<T>, row: T) -> Result<(), AddError>

@@ -6,6 +6,7 @@ use crate::fields::Fields;
 use crate::mistake::Mistake;
 use crate::question::Question;
 use crate::row::{ImageRow, Line, ModulePart, Row};
+use crate::word::keyword;
 use base::image::{PublicSymbol, Section, SectionContribution};
 use modules::tables::FileRow;
 use provider::symbols::{LineRow, ModuleState, SiteRow, Symbol, SymbolRecord};
@@ -35,59 +36,55 @@ impl Fields<'_> {
         let Word::Plain(word) = first else {
             return Err(Mistake::UnknownRow);
         };
-        match word {
-            b"text" => {
+        match keyword(word) {
+            "text" => {
                 self.text()?;
                 Ok(Row::Text)
             }
-            b"module" => Ok(Row::Module(self.module_state()?)),
-            b"hide" => Ok(Row::Hide(self.small(Mistake::ModuleTooLarge)?)),
-            b"find" => Ok(Row::Ask(Question::Find(self.number()?))),
-            b"frames" => Ok(Row::Ask(Question::Frames(self.number()?))),
-            b"list" => Ok(Row::Ask(Question::List)),
-            b"same" => Ok(Row::Ask(Question::Same(self.number()?, self.number()?))),
-            _ => match self.image_row(word)? {
-                Some(row) => Ok(Row::Image(row)),
-                None => Ok(Row::Part(self.part(word)?)),
-            },
+            "module" => Ok(Row::Module(self.module_state()?)),
+            "hide" => Ok(Row::Hide(self.small(Mistake::ModuleTooLarge)?)),
+            "find" => Ok(Row::Ask(Question::Find(self.number()?))),
+            "frames" => Ok(Row::Ask(Question::Frames(self.number()?))),
+            "list" => Ok(Row::Ask(Question::List)),
+            "same" => Ok(Row::Ask(Question::Same(self.number()?, self.number()?))),
+            word => self.image_row_or_part(word),
         }
     }
 
-    // None where a word begins no row of an image.
-    fn image_row(&mut self, word: &[u8]) -> Result<Option<ImageRow>, Mistake>
-        ensures { IfOk result (λ o. IfSome o FittingImage) }
+    fn image_row_or_part(&mut self, word: &str) -> Result<Row, Mistake>
+        ensures { IfOk result Fitting }
     {
         match word {
-            b"section" => Ok(Some(ImageRow::Section(self.section()?))),
-            b"public" => Ok(Some(ImageRow::Public(self.public()?))),
-            b"contribution" => Ok(Some(ImageRow::Contribution(self.contribution()?))),
-            b"publics" => Ok(Some(ImageRow::PublicsEnd(self.ending()?))),
-            b"contributions" => Ok(Some(ImageRow::ContributionsEnd(self.ending()?))),
-            b"table" => Ok(Some(self.table()?)),
-            _ => Ok(None),
+            "section" => Ok(Row::Image(ImageRow::Section(self.section()?))),
+            "public" => Ok(Row::Image(ImageRow::Public(self.public()?))),
+            "contribution" => Ok(Row::Image(ImageRow::Contribution(self.contribution()?))),
+            "publics" => Ok(Row::Image(ImageRow::PublicsEnd(self.ending()?))),
+            "contributions" => Ok(Row::Image(ImageRow::ContributionsEnd(self.ending()?))),
+            "table" => Ok(Row::Image(self.table()?)),
+            _ => Ok(Row::Part(self.part(word)?)),
         }
     }
 
-    fn part(&mut self, word: &[u8]) -> Result<ModulePart, Mistake> {
+    fn part(&mut self, word: &str) -> Result<ModulePart, Mistake> {
         match word {
-            b"symbols" => Ok(ModulePart::SymbolsEnd(self.ending()?)),
-            b"extras" => Ok(ModulePart::Extras(self.extras()?)),
-            b"file" => Ok(ModulePart::File(self.file()?)),
-            b"lines" => self.lines(),
-            b"line" => Ok(ModulePart::Line(self.line()?)),
-            b"inlined" => self.inlined(),
-            b"range" => Ok(ModulePart::Range(self.range()?)),
+            "symbols" => Ok(ModulePart::SymbolsEnd(self.ending()?)),
+            "extras" => Ok(ModulePart::Extras(self.extras()?)),
+            "file" => self.file(),
+            "lines" => self.lines(),
+            "line" => self.line(),
+            "inlined" => self.inlined(),
+            "range" => self.range(),
             _ => Ok(ModulePart::Symbol(self.record(word)?)),
         }
     }
 
-    fn record(&mut self, word: &[u8]) -> Result<SymbolRecord, Mistake> {
+    fn record(&mut self, word: &str) -> Result<SymbolRecord, Mistake> {
         match word {
-            b"procedure" => self.procedure(),
-            b"thunk" => self.thunk(),
-            b"separated" => self.separated(),
-            b"site" => self.site(),
-            b"other" => self.other(),
+            "procedure" => self.procedure(),
+            "thunk" => self.thunk(),
+            "separated" => self.separated(),
+            "site" => self.site(),
+            "other" => self.other(),
             _ => Err(Mistake::UnknownRow),
         }
     }
@@ -101,9 +98,9 @@ impl Fields<'_> {
     }
 
     fn is_executable(&mut self) -> Result<bool, Mistake> {
-        match self.plain()? {
-            b"executable" => Ok(true),
-            b"data" => Ok(false),
+        match self.keyword()? {
+            "executable" => Ok(true),
+            "data" => Ok(false),
             _ => Err(Mistake::NotAKind),
         }
     }
@@ -126,29 +123,29 @@ impl Fields<'_> {
     fn table(&mut self) -> Result<ImageRow, Mistake>
         ensures { IfOk result FittingImage }
     {
-        match self.plain()? {
-            b"starts" => Ok(ImageRow::StartTable(self.table_rows()?)),
-            b"contributions" => Ok(ImageRow::ContributionTable(self.table_rows()?)),
-            b"frames" => Ok(ImageRow::FrameTable(self.table_rows()?)),
-            b"addresses" => Ok(ImageRow::AddressTable(self.table_rows()?)),
+        match self.keyword()? {
+            "starts" => Ok(ImageRow::StartTable(self.table_rows()?)),
+            "contributions" => Ok(ImageRow::ContributionTable(self.table_rows()?)),
+            "frames" => Ok(ImageRow::FrameTable(self.table_rows()?)),
+            "addresses" => Ok(ImageRow::AddressTable(self.table_rows()?)),
             _ => Err(Mistake::NotATable),
         }
     }
 
     fn module_state(&mut self) -> Result<ModuleState, Mistake> {
-        match self.plain()? {
-            b"present" => Ok(ModuleState::Present),
-            b"absent" => Ok(ModuleState::Absent),
-            b"broken" => Ok(ModuleState::Broken),
+        match self.keyword()? {
+            "present" => Ok(ModuleState::Present),
+            "absent" => Ok(ModuleState::Absent),
+            "broken" => Ok(ModuleState::Broken),
             _ => Err(Mistake::NotAState),
         }
     }
 
-    fn file(&mut self) -> Result<FileRow, Mistake> {
-        Ok(FileRow {
+    fn file(&mut self) -> Result<ModulePart, Mistake> {
+        Ok(ModulePart::File(FileRow {
             number: self.number()?,
             name: self.name()?,
-        })
+        }))
     }
 
     fn lines(&mut self) -> Result<ModulePart, Mistake> {
@@ -158,12 +155,12 @@ impl Fields<'_> {
         })
     }
 
-    fn line(&mut self) -> Result<LineRow, Mistake> {
-        Ok(LineRow {
+    fn line(&mut self) -> Result<ModulePart, Mistake> {
+        Ok(ModulePart::Line(LineRow {
             offset: self.number()?,
             file: self.number()?,
             line: self.number()?,
-        })
+        }))
     }
 
     fn inlined(&mut self) -> Result<ModulePart, Mistake> {
@@ -174,13 +171,13 @@ impl Fields<'_> {
         })
     }
 
-    fn range(&mut self) -> Result<SiteRow, Mistake> {
-        Ok(SiteRow {
+    fn range(&mut self) -> Result<ModulePart, Mistake> {
+        Ok(ModulePart::Range(SiteRow {
             offset: self.number()?,
             length: self.length()?,
             file: self.number()?,
             line: self.number()?,
-        })
+        }))
     }
 
     fn procedure(&mut self) -> Result<SymbolRecord, Mistake> {

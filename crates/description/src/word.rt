@@ -6,25 +6,32 @@ ghost use Rattle.description.specs.Rows.{bounded};
 
 use crate::mistake::Mistake;
 use base::image::{SectionOffset, TextPart};
+use std::str;
 use words::number::{NotNumber, number};
 use words::scan::cut;
 
 // The most rows that a table may be said to have.
 const TABLE_LIMIT: u32 = 16_777_216;
 
+// A word as a text, since a pattern that is a text makes one test, and one of bytes a test for each byte. What is no text is no keyword.
+pub fn keyword(word: &[u8]) -> &str {
+    str::from_utf8(word).unwrap_or("")
+}
+
 pub fn number_in(word: &[u8], too_large: Mistake) -> Result<u32, Mistake>
     ensures { result_ok result ≡ result_ok (number_of word.now) }
 {
-    number(word).map_err(|wrong| match wrong {
-        NotNumber::NotDigits => Mistake::NotANumber,
-        NotNumber::TooLarge => too_large,
-    })
+    match number(word) {
+        Ok(number) => Ok(number),
+        Err(NotNumber::NotDigits) => Err(Mistake::NotANumber),
+        Err(NotNumber::TooLarge) => Err(too_large),
+    }
 }
 
 pub fn small(word: &[u8], too_large: Mistake) -> Result<u16, Mistake>
     ensures { result_ok result ≡ bounded word.now (2 ^ 16 - 1) }
 {
-    u16::try_from(number_in(word, too_large)?).map_err(|_| too_large)
+    u16::try_from(number_in(word, too_large)?).or(Err(too_large))
 }
 
 pub fn table_rows(word: &[u8]) -> Result<u32, Mistake>
