@@ -1,7 +1,7 @@
 -- What the bytes between two quotes stand for. Assumes nothing.
-use Rattle.std.specs.Prelude.{◌≡◌, ℕ, ◌+◌, ◌*◌, ◌<◌, cond, List, [], ◌∷◌, ◌++◌, Some, None, Ok, Err, Option, Result, ◌==◌, nat_lt}
-use Rattle.std.specs.Option.{option_map, option_to_list}
-use Rattle.std.specs.Char.{digit_value}
+use Rattle.std.specs.Prelude.{◌≡◌, ℕ, ◌+◌, ◌*◌, ◌<◌, cond, List, [], ◌∷◌, ◌++◌, Some, None, Ok, Err, Option, Result, ◌==◌}
+use Rattle.std.specs.Option.{option_map, option_and_then, option_to_list}
+use Rattle.std.specs.Char.{is_digit, digit_value}
 use Rattle.words.specs.declared.quote.Place.{Place}
 use Rattle.words.specs.declared.quote.Place.TheVariants.{Plain, Slash, High, Low}
 use Rattle.words.specs.declared.quote.QuoteError.{QuoteError}
@@ -12,7 +12,7 @@ abbrev pub named : ℕ → Option ℕ
 named c = cond (c == 34) (Some 34) (cond (c == 92) (Some 92) (cond (c == 110) (Some 10) (cond (c == 116) (Some 9) (cond (c == 114) (Some 13) None))))
 
 abbrev pub hex_digit : ℕ → Option ℕ
-hex_digit c = cond (nat_lt (digit_value c) 16) (Some (digit_value c)) None
+hex_digit c = cond (is_digit c 16) (Some (digit_value c)) None
 
 -- what c does at a place: the place of the next byte, and the byte that is now complete
 abbrev pub stepped : Place → ℕ → Option (Place × Option ℕ)
@@ -26,28 +26,19 @@ put b bs = option_to_list b ++ bs
 
 abbrev pub finished : Place → Option (List ℕ)
 finished Plain = Some []
-finished Slash = None
-finished High = None
-finished (Low h) = None
-
--- `rest` says what the bytes after this one stand for
-abbrev pub after_step : (Place → Option (List ℕ)) → Option (Place × Option ℕ) → Option (List ℕ)
-after_step rest None = None
-after_step rest (Some s) = option_map (put s.1) (rest s.0)
+finished p = None
 
 -- what bytes stand for, the first of them at a place
 abbrev pub from_place : Place → List ℕ → Option (List ℕ)
 from_place p [] = finished p
-from_place p (c ∷ cs) = after_step (λ q. from_place q cs) (stepped p c)
+from_place p (c ∷ cs) = option_and_then (λ s. option_map (put s.1) (from_place s.0 cs)) (stepped p c)
 
 abbrev pub unquoted : List ℕ → Option (List ℕ)
 unquoted bs = from_place Plain bs
 
 abbrev pub Sound : Place → Type 0
-Sound Plain = Unit {0}
-Sound Slash = Unit {0}
-Sound High = Unit {0}
 Sound (Low h) = h < 16
+Sound p = Unit {0}
 
 -- what is appended to `old`
 abbrev pub Unquotes : List ℕ → List ℕ → List ℕ → Result Unit QuoteError → Type 0
