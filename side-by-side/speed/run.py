@@ -1,9 +1,11 @@
 #!/usr/bin/env python3
-"""Times the port and the original on the same images, and prints tables in Markdown: run.py BENCH RESOLVE TIMES FOLDER [--runs N] [--most N]
+"""Times the port and the original on the same images, and prints tables in Markdown: run.py BENCH RESOLVE TIMES FOLDER [OPTIONS]
 
 BENCH and RESOLVE are the programs of crates/bench and crates/resolve, TIMES is what build.sh made. The images are written into FOLDER, those that
-are not there yet, of at most so many functions as --most says. Each program is run --runs times, in turn with the other, and of each part the
-least time counts; a program that took more than a minute is not run again. The status is 1 if the two do not answer the same.
+are not there yet, of at most so many functions as --most says; --long adds one that takes a quarter of an hour. Each program is run --runs times,
+in turn with the other, and of each part the least time counts; a program that took more than a minute is not run again. With --into FILE the tables
+also take the place of what stands in that file between the lines <!-- figures --> and <!-- end of figures -->. The status is 1 if the two do not
+answer the same.
 """
 
 import argparse
@@ -17,8 +19,8 @@ import time
 import generate
 
 KINDS = {
-    "random": [1_000, 10_000, 100_000, 1_000_000],
-    "rising": [1_000, 10_000, 100_000, 1_000_000],
+    "random": [100, 1_000, 10_000, 100_000],
+    "rising": [100, 1_000, 10_000, 100_000, 1_000_000],
     "deep8": [1_000, 10_000, 100_000],
     "deep31": [1_000, 10_000],
 }
@@ -37,6 +39,7 @@ PARTS = {
 }
 WHOLE = ("read", "build", "list")
 LONG = 60
+LONG_IMAGE = ("random", 1_000_000)
 
 
 class Run:
@@ -81,22 +84,28 @@ def least(runs):
 
 
 def shown(nanoseconds):
-    for unit, size in (("s", 1e9), ("ms", 1e6), ("µs", 1e3)):
-        if nanoseconds >= size:
-            return f"{nanoseconds / size:.3g} {unit}"
-    return f"{nanoseconds:.0f} ns"
+    for unit, size in (("s", 1e9), ("ms", 1e6), ("µs", 1e3), ("ns", 1)):
+        if nanoseconds >= 0.9995 * size:
+            break
+    number = nanoseconds / size
+    return f"{number:.{0 if number >= 99.5 else 1 if number >= 9.95 else 2}f} {unit}"
+
+
+def ratio(ours, theirs):
+    return f"{ours / theirs:.0f}" if ours > 10 * theirs else f"{ours / theirs:.2g}"
 
 
 def cell(ours, theirs):
-    return f"{shown(ours)}, {shown(theirs)}: **{ours / theirs:.2g}**"
+    return f"{shown(ours)}, {shown(theirs)}: **{ratio(ours, theirs)}**"
 
 
 def table(kind, columns, rows):
-    """`columns` are counts of functions, and `rows` names with a cell for each."""
-    print(f"\n| `{kind}` |", " | ".join(f"{functions:,}" for functions in columns), "|")
-    print("|---" * (len(columns) + 1) + "|")
+    """The lines of a table: `columns` are counts of functions, and `rows` names with a cell for each."""
+    yield ""
+    yield f"| `{kind}` | " + " | ".join(f"{functions:,}" for functions in columns) + " |"
+    yield "|---" * (len(columns) + 1) + "|"
     for name, cells in rows:
-        print(f"| {name} |", " | ".join(cells), "|")
+        yield f"| {name} | " + " | ".join(cells) + " |"
 
 
 def whole(resolve, times, path, address, runs):
@@ -125,8 +134,20 @@ def measure(given, kind, functions):
     cells = [cell(ours[part], theirs[part]) for part in PARTS]
     (our_time, our_size), (their_time, their_size) = whole(given.resolve, given.times, path, generate.CODE + functions, given.runs)
     cells.append(cell(1e9 * our_time, 1e9 * their_time))
-    cells.append(f"{our_size / 1024:.0f}, {their_size / 1024:.0f}: **{our_size / their_size:.2g}**")
+    # What is measured has the memory that this process was forked with.
+    told = min(our_size, their_size) > 64 * 1024
+    cells.append(f"{our_size / 1024:.0f}, {their_size / 1024:.0f}: **{ratio(our_size, their_size)}**" if told else "")
     return cells
+
+
+def put(path, lines):
+    with open(path) as file:
+        head, mark, rest = file.read().partition("<!-- figures -->\n")
+    _, end, tail = rest.partition("<!-- end of figures -->\n")
+    if not mark or not end:
+        raise SystemExit(f"{path} has no place for figures")
+    with open(path, "w") as file:
+        file.write(head + mark + "\n" + "\n".join(lines) + "\n\n" + end + tail)
 
 
 def processor():
@@ -142,19 +163,24 @@ def main():
     parser.add_argument("folder")
     parser.add_argument("--runs", type=int, default=5)
     parser.add_argument("--most", type=int, default=1_000_000)
+    parser.add_argument("--long", action="store_true")
+    parser.add_argument("--into")
     given = parser.parse_args()
     os.makedirs(given.folder, exist_ok=True)
     load = os.getloadavg()[0]
-    print(f"{datetime.date.today()}, {processor()}, {os.cpu_count()} processors, of which {load:.1f} were busy in the minute before.")
+    lines = [f"{datetime.date.today()}, {processor()}, {os.cpu_count()} processors, of which {load:.1f} were busy in the minute before."]
     names = list(PARTS.values()) + ["a process, one address", "its memory, MiB"]
     for kind, sizes in KINDS.items():
+        sizes = sizes + [LONG_IMAGE[1]] * (given.long and kind == LONG_IMAGE[0])
         sizes = [functions for functions in sizes if functions <= given.most]
         columns = []
         for functions in sizes:
             print(f"{kind} {functions}", file=sys.stderr)
             columns.append(measure(given, kind, functions))
-        table(kind, sizes, zip(names, zip(*columns)))
-        sys.stdout.flush()
+        lines += table(kind, sizes, zip(names, zip(*columns)))
+    print("\n".join(lines))
+    if given.into:
+        put(given.into, lines)
 
 
 if __name__ == "__main__":

@@ -10,15 +10,20 @@ use image::ImageSource;
 use provider::ModuleProvider;
 use resolver::cursor::Cursor;
 use resolver::resolver::Resolver;
-use std::fmt::Write;
-use std::time::Duration;
 
 // How many addresses are asked in each part, and how many of them of new resolvers.
 const ASKED: usize = 10_000;
 
 const COLD: usize = 8;
 
-// All is asked of one resolver, but for the cold lookups.
+// Addresses, and what the lines of their answers begin with.
+#[derive(Clone, Copy)]
+struct Batch<'a> {
+    name: &'a str,
+    addresses: &'a [u32],
+}
+
+// `near` addresses lie in one module, `far` ones in any.
 pub fn write_answers<P: ModuleProvider + Drop>(
     rt: &HostRuntime,
     times: &mut Times,
@@ -32,33 +37,35 @@ pub fn write_answers<P: ModuleProvider + Drop>(
     let mut places = Places::over(description.image.sections.as_slice());
     let near = places.addresses(heap, of_one.as_slice(), ASKED)?;
     let far = places.addresses(heap, rows, ASKED)?;
-    let mut resolver = ask_cold(rt, times, provider, context, far.as_slice())?;
-    ask_functions(rt, times, "near", &mut resolver, context, near.as_slice())?;
-    ask_functions(rt, times, "far", &mut resolver, context, far.as_slice())?;
-    ask_frames(
-        rt,
-        times,
-        "near-frames",
-        &mut resolver,
-        context,
-        description.frame_rows,
-        near.as_slice(),
-    )?;
-    ask_frames(
-        rt,
-        times,
-        "far-frames",
-        &mut resolver,
-        context,
-        description.frame_rows,
-        far.as_slice(),
-    )?;
+    let near = Batch {
+        name: "near",
+        addresses: near.as_slice(),
+    };
+    let far = Batch {
+        name: "far",
+        addresses: far.as_slice(),
+    };
+    let mut resolver = ask_cold(rt, times, provider, context, far.addresses)?;
+    ask_batches(rt, times, &mut resolver, context, description, &[near, far])?;
     ask_list(rt, times, &mut resolver, context, description.address_rows)
 }
 
-fn write_part(times: &mut Times, name: &str, tally: &Tally, spent: Duration) -> anyhow::Result<()> {
-    write!(times.lines, "{name} {tally}")?;
-    times.end_line(spent)?;
+// All is asked of one resolver.
+fn ask_batches<P: ModuleProvider>(
+    rt: &HostRuntime,
+    times: &mut Times,
+    resolver: &mut Resolver<P>,
+    context: &Context<'_>,
+    description: &Description,
+    batches: &[Batch<'_>],
+) -> anyhow::Result<()> {
+    for batch in batches {
+        ask_functions(rt, times, resolver, context, *batch)?;
+    }
+    let mut rows = vec![in rt.alloc(); Frame::empty(); description.frame_rows]?;
+    for batch in batches {
+        ask_frames(rt, times, resolver, context, rows.as_mut_slice(), *batch)?;
+    }
     Ok(())
 }
 
@@ -80,46 +87,45 @@ fn ask_cold<P: ModuleProvider + Drop>(
         tally.add_function(resolver.provider.text(), answer);
     }
     let spent = part.end(rt)?;
-    write_part(times, "cold", &tally, spent)?;
+    times.push(format_args!("cold {tally}"), spent)?;
     Ok(resolver)
 }
 
 fn ask_functions<P: ModuleProvider>(
     rt: &HostRuntime,
     times: &mut Times,
-    name: &str,
     resolver: &mut Resolver<P>,
     context: &Context<'_>,
-    addresses: &[u32],
+    batch: Batch<'_>,
 ) -> anyhow::Result<()> {
     let part = Part::begin(rt)?;
     let mut tally = Tally::default();
-    for address in addresses {
+    for address in batch.addresses {
         let answer = resolver.find_function(context, *address);
         tally.add_function(resolver.provider.text(), answer);
     }
     let spent = part.end(rt)?;
-    write_part(times, name, &tally, spent)
+    let name = batch.name;
+    times.push(format_args!("{name} {tally}"), spent)
 }
 
 fn ask_frames<P: ModuleProvider>(
     rt: &HostRuntime,
     times: &mut Times,
-    name: &str,
     resolver: &mut Resolver<P>,
     context: &Context<'_>,
-    rows: usize,
-    addresses: &[u32],
+    rows: &mut [Frame],
+    batch: Batch<'_>,
 ) -> anyhow::Result<()> {
-    let mut frames = vec![in rt.alloc(); Frame::empty(); rows]?;
     let part = Part::begin(rt)?;
     let mut tally = Tally::default();
-    for address in addresses {
-        let answer = resolver.find_frames(context, *address, frames.as_mut_slice());
-        tally.add_frames(resolver.provider.text(), answer, frames.as_slice());
+    for address in batch.addresses {
+        let answer = resolver.find_frames(context, *address, rows);
+        tally.add_frames(resolver.provider.text(), answer, rows);
     }
     let spent = part.end(rt)?;
-    write_part(times, name, &tally, spent)
+    let name = batch.name;
+    times.push(format_args!("{name}-frames {tally}"), spent)
 }
 
 fn ask_list<P: ModuleProvider>(
@@ -135,8 +141,7 @@ fn ask_list<P: ModuleProvider>(
     let spent = part.end(rt)?;
     match count {
         Ok(count) => {
-            write!(times.lines, "list addresses {count}")?;
-            times.end_line(spent)?;
+            times.push(format_args!("list addresses {count}"), spent)?;
             let listed = table.as_slice();
             ask_cursor(
                 rt,
@@ -146,11 +151,7 @@ fn ask_list<P: ModuleProvider>(
                 listed.get(..count).unwrap_or(listed),
             )
         }
-        Err(refusal) => {
-            write!(times.lines, "list refused {}", refusal.number())?;
-            times.end_line(spent)?;
-            Ok(())
-        }
+        Err(refusal) => times.push(format_args!("list refused {}", refusal.number()), spent),
     }
 }
 
@@ -164,7 +165,7 @@ fn ask_cursor<P: ModuleProvider>(
     let part = Part::begin(rt)?;
     let tally = tally_list(resolver, context, addresses);
     let spent = part.end(rt)?;
-    write_part(times, "cursor", &tally, spent)
+    times.push(format_args!("cursor {tally}"), spent)
 }
 
 #[tactic(auto, using(report::proofs::Stepping::shorter))]

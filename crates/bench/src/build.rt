@@ -5,8 +5,9 @@ use base::context::{Contribution, KnownStart};
 use context::tables::{Context, Tables};
 use description::Description;
 use report::opening::open_built;
-use std::fmt::Write;
+use std::time::Duration;
 
+// The tables are a part of what building takes.
 pub fn write_built(
     rt: &HostRuntime,
     times: &mut Times,
@@ -20,29 +21,33 @@ pub fn write_built(
         starts: starts.as_mut_slice(),
         contributions: contributions.as_mut_slice(),
     };
+    build_in(rt, times, description, part, &mut tables)
+}
+
+fn build_in(
+    rt: &HostRuntime,
+    times: &mut Times,
+    description: &Description,
+    part: Part,
+    tables: &mut Tables<'_>,
+) -> anyhow::Result<()> {
     let mut context = Context::empty();
-    let built = open_built(description, &mut tables, &mut context);
+    let built = open_built(description, tables, &mut context);
     let spent = part.end(rt)?;
     match built {
         Ok(provider) => {
-            write_counts(times, &context)?;
-            times.end_line(spent)?;
+            write_counts(times, &context, spent)?;
             write_answers(rt, times, provider, &context, description)
         }
-        Err(refusal) => {
-            write!(times.lines, "build refused {}", refusal.number())?;
-            times.end_line(spent)?;
-            Ok(())
-        }
+        Err(refusal) => times.push(format_args!("build refused {}", refusal.number()), spent),
     }
 }
 
-fn write_counts(times: &mut Times, context: &Context<'_>) -> anyhow::Result<()> {
+fn write_counts(times: &mut Times, context: &Context<'_>, spent: Duration) -> anyhow::Result<()> {
     let starts = context.starts.used().rows.len();
     let contributions = context.contributions.used().rows.len();
-    write!(
-        times.lines,
-        "build starts {starts} contributions {contributions}"
-    )?;
-    Ok(())
+    times.push(
+        format_args!("build starts {starts} contributions {contributions}"),
+        spent,
+    )
 }

@@ -1,7 +1,6 @@
 // Lines, and how long what they tell of has taken.
 use std::alloc::{AllocError, Global};
-use std::fmt::Write;
-use std::io;
+use std::fmt::{Display, Write};
 use std::time::{Duration, Instant};
 
 #[derive(Drop)]
@@ -16,12 +15,12 @@ pub struct Times {
 pub struct Part(Instant);
 
 impl Part {
-    pub fn begin(rt: &HostRuntime) -> io::Result<Part> {
+    pub fn begin(rt: &HostRuntime) -> anyhow::Result<Part> {
         Ok(Part(Instant::now(rt)?))
     }
 
-    pub fn end(self, rt: &HostRuntime) -> io::Result<Duration> {
-        self.0.elapsed(rt)
+    pub fn end(self, rt: &HostRuntime) -> anyhow::Result<Duration> {
+        Ok(self.0.elapsed(rt)?)
     }
 }
 
@@ -33,7 +32,14 @@ impl Times {
         }
     }
 
-    pub fn end_line(&mut self, spent: Duration) -> Result<(), AllocError> {
+    // What was done, and in how long a time.
+    pub fn push<D: Display + Drop>(&mut self, done: D, spent: Duration) -> anyhow::Result<()> {
+        write!(self.lines, "{done}")?;
+        self.push_time(spent)?;
+        Ok(())
+    }
+
+    fn push_time(&mut self, spent: Duration) -> Result<(), AllocError> {
         if self.shown {
             let nanoseconds = spent.as_nanos();
             write!(self.lines, " nanoseconds {nanoseconds}")?;
