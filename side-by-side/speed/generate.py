@@ -83,7 +83,8 @@ def write(path, kind, functions):
     order = list(range(functions))
     if kind == "random":
         source.shuffle(order)
-    with open(path, "w", buffering=1 << 20) as out:
+    part = path + ".part"
+    with open(part, "w", buffering=1 << 20) as out:
         size = places[-1]
         out.write(f"section {CODE:#x} {size:#x} executable\nsection {CODE + size:#x} 0x100 data\n")
         out.writelines(f'public 1:{places[k]:#x} "?f{k}@work@@YAXXZ"\n' for k in order)
@@ -96,6 +97,7 @@ def write(path, kind, functions):
             for k in range(first, min(first + PER_MODULE, functions)):
                 module.add(k, places[k], places[k + 1], depth)
             out.write("\n".join(module.rows + module.lines + module.inlined) + "\n")
+    os.rename(part, path)
 
 
 def main():

@@ -19,7 +19,7 @@ import time
 import generate
 
 KINDS = {
-    "random": [100, 1_000, 10_000, 100_000],
+    "random": [100, 300, 1_000, 10_000, 100_000],
     "rising": [100, 1_000, 10_000, 100_000, 1_000_000],
     "deep8": [1_000, 10_000, 100_000],
     "deep31": [1_000, 10_000],
@@ -123,8 +123,8 @@ def measure(given, kind, functions):
     """The cells of an image."""
     path = os.path.join(given.folder, generate.image_name(kind, functions))
     if not os.path.exists(path):
-        generate.write(path + ".part", kind, functions)
-        os.rename(path + ".part", path)
+        # Apart from this process, whose memory the programs below are started with.
+        subprocess.run([sys.executable, generate.__file__, given.folder, kind, str(functions)], check=True)
     ours, theirs = in_turn([given.bench, "--times", path], [given.times, "--times", path], given.runs)
     for run in ours + theirs:
         if run.answers() != ours[0].answers():
@@ -134,8 +134,8 @@ def measure(given, kind, functions):
     cells = [cell(ours[part], theirs[part]) for part in PARTS]
     (our_time, our_size), (their_time, their_size) = whole(given.resolve, given.times, path, generate.CODE + functions, given.runs)
     cells.append(cell(1e9 * our_time, 1e9 * their_time))
-    # What is measured has the memory that this process was forked with.
-    told = min(our_size, their_size) > 64 * 1024
+    # A process has had at least the memory of this one, which started it.
+    told = min(our_size, their_size) > 32 * 1024
     cells.append(f"{our_size / 1024:.0f}, {their_size / 1024:.0f}: **{ratio(our_size, their_size)}**" if told else "")
     return cells
 
@@ -168,7 +168,9 @@ def main():
     given = parser.parse_args()
     os.makedirs(given.folder, exist_ok=True)
     load = os.getloadavg()[0]
-    lines = [f"{datetime.date.today()}, {processor()}, {os.cpu_count()} processors, of which {load:.1f} were busy in the minute before."]
+    lines = [
+        f"{datetime.date.today()}, {processor()}, {os.cpu_count()} processors; the load in the minute before was {load:.1f}. Each program ran {given.runs} times."
+    ]
     names = list(PARTS.values()) + ["a process, one address", "its memory, MiB"]
     for kind, sizes in KINDS.items():
         sizes = sizes + [LONG_IMAGE[1]] * (given.long and kind == LONG_IMAGE[0])
