@@ -2,6 +2,8 @@
 use anyhow::Context;
 use std::env;
 
+const USAGE: &str = "bench [--times] PATH";
+
 #[derive(Drop)]
 pub struct Options {
     pub path: String,
@@ -19,8 +21,6 @@ pub fn read_options(rt: &HostRuntime) -> anyhow::Result<Options> {
     } else {
         first
     };
-    anyhow::ensure!(args.next().is_none(), "bench [--times] PATH");
+    anyhow::ensure!(args.next().is_none(), USAGE);
     Ok(Options { path, times })
 }
-
-const USAGE: &str = "bench [--times] PATH";
