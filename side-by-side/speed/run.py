@@ -2,7 +2,7 @@
 """Times the port and the original on the same images, and prints tables in Markdown: run.py BENCH RESOLVE TIMES FOLDER [OPTIONS]
 
 BENCH and RESOLVE are the programs of crates/bench and crates/resolve, TIMES is what build.sh made. The images are written into FOLDER, those that
-are not there yet, of at most so many functions as --most says; --long adds one that takes a quarter of an hour. Each program is run --runs times,
+are not there yet, of at most so many functions as --most says; --long adds one that takes half an hour. Each program is run --runs times,
 in turn with the other, and of each part the least time counts; a program that took more than a minute is not run again. With --into FILE the tables
 also take the place of what stands in that file between the lines <!-- figures --> and <!-- end of figures -->. The status is 1 if the two do not
 answer the same.
