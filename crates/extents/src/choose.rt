@@ -1,9 +1,8 @@
 // The function at a location.
-ghost use Rattle.std.specs.Prelude.{◌≡◌, ◌+◌, ◌^◌, ◌<◌, Some, IfSome, IsTrue};
-ghost use Rattle.order.specs.Rank.{InOrder, first, last};
+ghost use Rattle.std.specs.Prelude.{◌≡◌, ◌+◌, ◌^◌, ◌<◌, ◌≤◌, length, take, Some, IfSome, IsTrue};
+ghost use Rattle.order.specs.Rank.{first, last};
 ghost use Rattle.order.specs.Placed.{Reach};
 ghost use Rattle.base.specs.Rows.{offset_rank, start_rank};
-ghost use Rattle.procedures.specs.Rows.{procedure_rank};
 ghost use Rattle.context.specs.Context.{meaning};
 ghost use Rattle.lookup.specs.Finding.{covers, chosen, reaches, follows, capped as at_most_top, of_procedure, of_start, by_choice};
 
@@ -15,30 +14,45 @@ use context::tables::Context;
 use procedures::function::{Function, Location};
 use procedures::name::NameRow;
 use procedures::row::Procedure;
+use shelf::shelf::Procedures;
+use shelf::stretches::along;
 use table::{Sorted, reach};
 
-// Of the procedures that contain a place, the one that starts last. They may overlap and nest, so each that starts at or
-// below the place is tried.
+// Of the procedures that contain a place, the one that starts last. They may overlap and nest.
 #[tactic(auto, using(lookup::proofs::Searching::chosen_reach))]
-pub fn choose(procedures: &[Procedure], offset: SectionOffset) -> Option<Procedure>
-    ensures chosen { InOrder procedure_rank procedures.now → result ≡ chosen offset procedures.now }
+pub fn choose(procedures: &Procedures<'_>, offset: SectionOffset) -> Option<Procedure>
+    ensures chosen { result ≡ chosen offset procedures.now.rows.now }
     ensures covers { IfSome result (λ p. IsTrue (covers offset p)) }
 {
     let here = Procedure {
         offset,
         ..Procedure::empty()
     };
-    last_holding(&procedures[..reach(procedures, &here)], offset)
+    last_holding(procedures, reach(procedures.rows, &here), offset)
 }
 
-fn last_holding(procedures: &[Procedure], offset: SectionOffset) -> Option<Procedure>
-    ensures { result ≡ chosen offset procedures.now }
+// The last of the first rows, up to `upto`, that contains a place. A stretch that ends at or below it is left out whole.
+fn last_holding(
+    procedures: &Procedures<'_>,
+    mut upto: usize,
+    offset: SectionOffset,
+) -> Option<Procedure>
+    requires { upto ≤ length procedures.now.rows.now }
+    ensures { result ≡ chosen offset (take upto procedures.now.rows.now) }
 {
-    procedures
-        .iter()
-        .rev()
-        .find(|procedure| holds(*procedure, offset))
-        .copied()
+    let place = along(offset.section, offset.offset);
+    while let Some(row) = upto.checked_sub(1) {
+        let procedure = procedures.rows[row];
+        let stretch = procedures.stretches[row];
+        if stretch.end <= place {
+            upto = stretch.from;
+        } else if holds(&procedure, offset) {
+            return Some(procedure);
+        } else {
+            upto = row;
+        }
+    }
+    None
 }
 
 // An address above the top is none.

@@ -50,7 +50,7 @@ impl<P: ModuleProvider> Resolver<P> {
         };
         self.shelf
             .want(&self.provider, location.contribution.module)?;
-        let choice = choose(self.shelf.procedures().rows, location.offset);
+        let choice = choose(&self.shelf.procedures(), location.offset);
         Ok(by_choice(self.provider.text(), context, &location, choice))
     }
 

@@ -4,3 +4,4 @@
 pub mod load;
 mod reading;
 pub mod shelf;
+pub mod stretches;

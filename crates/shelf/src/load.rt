@@ -8,12 +8,13 @@ ghost use Rattle.lookup.specs.Reading.{empty_shelf, read_through, filled, shelve
 ghost use Rattle.shelf.specs.Shelf.{shelved};
 
 use crate::reading::read_procedures;
-use crate::shelf::{MOST_PROCEDURES, Shelf};
+use crate::shelf::{MOST_PROCEDURES, Procedures, Shelf};
+use crate::stretches::{Stretch, fill_stretches};
 use base::refusal::Refusal;
 use procedures::row::Procedure;
 use provider::ModuleProvider;
 use provider::symbols::ModuleState;
-use table::{Sorted, Table};
+use table::Table;
 
 impl Shelf {
     pub fn empty() -> Shelf
@@ -22,17 +23,19 @@ impl Shelf {
         Shelf {
             module: None,
             rows: [Procedure::empty(); MOST_PROCEDURES],
+            stretches: [Stretch::default(); MOST_PROCEDURES],
             count: 0,
         }
     }
 
     #[tactic(auto, using(order::proofs::Rows::in_order_from_rises))]
-    pub fn procedures(&self) -> Sorted<'_, Procedure>
+    pub fn procedures(&self) -> Procedures<'_>
         ensures value { result.rows.now ≡ (shelved self.now).procedures }
         ensures rises { Rises procedure_rank result.rows.now }
     {
-        Sorted {
+        Procedures {
             rows: &self.rows[..self.count],
+            stretches: &self.stretches,
         }
     }
 
@@ -68,7 +71,9 @@ impl Shelf {
         let mut procedures = Table::over(&mut self.rows);
         // a faulty list gives no information
         if let Ok(()) = read_procedures(provider, module, &mut procedures)? {
-            self.count = procedures.count;
+            let count = procedures.count;
+            fill_stretches(&self.rows[..count], &mut self.stretches);
+            self.count = count;
             self.module = Some(module);
         }
         Ok(())

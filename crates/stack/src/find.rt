@@ -50,7 +50,7 @@ fn frames_at<P: ModuleProvider>(
     ensures answer { location.now.base + location.now.offset.offset < 2 ^ 32 → result ≡ (shelved_frames (P.ImageSource.image provider.now).text (P.ModuleProvider.modules provider.now) (meaning context.now) location.now frames.old None (shelved shelf.now)).answer }
     ensures table { location.now.base + location.now.offset.offset < 2 ^ 32 → frames.new ≡ (shelved_frames (P.ImageSource.image provider.now).text (P.ModuleProvider.modules provider.now) (meaning context.now) location.now frames.old None (shelved shelf.now)).table }
 {
-    let choice = choose(shelf.procedures().rows, location.offset);
+    let choice = choose(&shelf.procedures(), location.offset);
     match by_choice(provider.text(), context, location, choice) {
         Some(function) => {
             write_frames(provider, shelf, location, &function, choice, frames).map(Some)

@@ -8,6 +8,6 @@ returns-clause-answer g c =
     let l = c.in-Some.location in
     let at_address = located_address (meaning c.args.context.now) c.args.address l (sym c.in-Some.ensures) in
     let fits : l.base + l.offset.offset < 2 ^ 32 = (let f = c.ranges.address.fits in omega arith) in
-    let choice = c.choose-choice.ensures.chosen c.procedures.result.ordered in
+    let choice = c.choose-choice.ensures.chosen in
     let answer = c.by_choice.ensures fits c.choose-choice.ensures.covers in
     search arith
