@@ -28,13 +28,15 @@ pub struct Hiding<P> {
 }
 
 impl<P> Hiding<P> {
+    ghost use Rattle.hiding.specs.Layer.{below, hidden};
+
     // Hides nothing yet.
-    pub fn over(below: P) -> Hiding<P>
-        ensures below { result.below ≡ below }
-        ensures numbers { take result.count result.numbers ≡ [] }
+    pub fn over(provider: P) -> Hiding<P>
+        ensures below { below result ≡ provider }
+        ensures numbers { hidden result ≡ [] }
     {
         Hiding {
-            below,
+            below: provider,
             numbers: [0; MOST_HIDDEN],
             count: 0,
         }
@@ -42,9 +44,9 @@ impl<P> Hiding<P> {
 
     // Hides one module more. A 65th is refused, and the layer is as it was.
     pub fn hide(&mut self, number: u16) -> Result<(), Refusal>
-        ensures below { self.new.below ≡ self.old.below }
-        ensures again { among (take self.old.count self.old.numbers) number ≡ true → self.new ≡ self.old }
-        ensures numbers { elim result [ Ok v ↦ with (take self.old.count self.old.numbers) number ≡ Some (take self.new.count self.new.numbers) | Err e ↦ (with (take self.old.count self.old.numbers) number ≡ None) × (e ≡ TooManyHidden) × (self.new ≡ self.old) ] }
+        ensures below { below self.new ≡ below self.old }
+        ensures again { among (hidden self.old) number ≡ true → self.new ≡ self.old }
+        ensures numbers { elim result [ Ok v ↦ with (hidden self.old) number ≡ Some (hidden self.new) | Err e ↦ (with (hidden self.old) number ≡ None) × (e ≡ TooManyHidden) × (self.new ≡ self.old) ] }
     {
         if self.hides(number) {
             return Ok(());
@@ -59,7 +61,7 @@ impl<P> Hiding<P> {
 
     // The provider below, where the module is not hidden.
     fn shown(&self, number: u16) -> Option<&P>
-        ensures { MatchOption result (among (take self.now.count self.now.numbers) number ≡ true) (λ p. (among (take self.now.count self.now.numbers) number ≡ false) × (p.now ≡ self.now.below)) }
+        ensures { MatchOption result (among (hidden self.now) number ≡ true) (λ p. (among (hidden self.now) number ≡ false) × (p.now ≡ below self.now)) }
     {
         if self.hides(number) {
             return None;
@@ -68,7 +70,7 @@ impl<P> Hiding<P> {
     }
 
     fn hides(&self, number: u16) -> bool
-        ensures { result ≡ among (take self.now.count self.now.numbers) number }
+        ensures { result ≡ among (hidden self.now) number }
     {
         is_among(&self.numbers[0..self.count], number)
     }
@@ -87,9 +89,11 @@ fn is_among(numbers: &[u16], number: u16) -> bool
 }
 
 impl<P: ImageSource> ImageSource for Hiding<P> {
-    ghost image = { λ h. P.ImageSource.image h.below };
+    ghost use Rattle.hiding.specs.Layer.{below};
 
-    ghost lawful = { λ h. P.ImageSource.lawful h.below };
+    ghost image = { λ h. P.ImageSource.image (below h) };
+
+    ghost lawful = { λ h. P.ImageSource.lawful (below h) };
 
     fn text(&self) -> &[u8] {
         self.below.text()
@@ -109,9 +113,11 @@ impl<P: ImageSource> ImageSource for Hiding<P> {
 }
 
 impl<P: ModuleProvider> ModuleProvider for Hiding<P> {
-    ghost modules = { λ h. hide (take h.count h.numbers) (P.ModuleProvider.modules h.below) };
+    ghost use Rattle.hiding.specs.Layer.{below, hidden};
 
-    ghost regular = { λ h. hide_regular (take h.count h.numbers) (P.ModuleProvider.modules h.below) (P.ModuleProvider.regular h.below) };
+    ghost modules = { λ h. hide (hidden h) (P.ModuleProvider.modules (below h)) };
+
+    ghost regular = { λ h. hide_regular (hidden h) (P.ModuleProvider.modules (below h)) (P.ModuleProvider.regular (below h)) };
 
     fn module_count(&self) -> u32 {
         self.below.module_count()

@@ -32,10 +32,12 @@ pub struct RowProvider<'a> {
 }
 
 impl<'a> RowProvider<'a> {
+    ghost use Rattle.row_provider.specs.Provided.{provided_image, provided_modules};
+
     // What a lent place holds at first.
     pub fn empty() -> RowProvider<'a>
-        ensures image { meaning_of result.image.rows ≡ nothing }
-        ensures modules { modules_of result.modules ≡ no_modules }
+        ensures image { provided_image result ≡ nothing }
+        ensures modules { provided_modules result ≡ no_modules }
     {
         RowProvider {
             image: RowSource::empty(),
@@ -50,8 +52,8 @@ impl<'a> RowProvider<'a> {
         place: &mut RowProvider<'a>,
     ) -> Result<(), Refusal>
         ensures answer { result_err result ≡ refused image.entry modules.entry }
-        ensures granted_image { OnOk result (meaning_of place.new.image.rows ≡ meaning_of image.entry) }
-        ensures granted_modules { OnOk result (modules_of place.new.modules ≡ modules_of modules.entry) }
+        ensures granted_image { OnOk result (provided_image place.new ≡ meaning_of image.entry) }
+        ensures granted_modules { OnOk result (provided_modules place.new ≡ modules_of modules.entry) }
         ensures refused { OnErr result (place.new ≡ place.old) }
     {
         let mut source = RowSource::empty();
@@ -66,7 +68,9 @@ impl<'a> RowProvider<'a> {
 }
 
 impl<'a> ImageSource for RowProvider<'a> {
-    ghost image = { λ p. meaning_of p.image.rows };
+    ghost use Rattle.row_provider.specs.Provided.{provided_image};
+
+    ghost image = { provided_image };
 
     ghost lawful = { λ p. p.image.lawful };
 
@@ -88,7 +92,9 @@ impl<'a> ImageSource for RowProvider<'a> {
 }
 
 impl<'a> ModuleProvider for RowProvider<'a> {
-    ghost modules = { λ p. modules_of p.modules };
+    ghost use Rattle.row_provider.specs.Provided.{provided_modules};
+
+    ghost modules = { provided_modules };
 
     ghost regular = { λ p. means_regular p.image.rows.text.now p.modules p.good };
 

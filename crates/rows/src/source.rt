@@ -18,9 +18,11 @@ pub struct RowSource<'a> {
 }
 
 impl<'a> RowSource<'a> {
+    ghost use Rattle.rows.specs.Source.{meaning};
+
     // What a lent place holds at first.
     pub fn empty() -> RowSource<'a>
-        ensures { meaning_of result.rows ≡ nothing }
+        ensures { meaning result ≡ nothing }
     {
         RowSource {
             rows: ImageRows {
@@ -37,7 +39,7 @@ impl<'a> RowSource<'a> {
     // Puts the tables into the place, a lent one as a rule of the project wants it, or leaves it as it was where one of their rows is bad.
     pub fn open(rows: ImageRows<'a>, place: &mut RowSource<'a>) -> Result<(), Refusal>
         ensures answer { result_err result ≡ bad_row (meaning_of rows.entry) }
-        ensures granted { OnOk result (meaning_of place.new.rows ≡ meaning_of rows.entry) }
+        ensures granted { OnOk result (meaning place.new ≡ meaning_of rows.entry) }
         ensures refused { OnErr result (place.new ≡ place.old) }
     {
         rows.check()?;
@@ -47,7 +49,9 @@ impl<'a> RowSource<'a> {
 }
 
 impl<'a> ImageSource for RowSource<'a> {
-    ghost image = { λ s. meaning_of s.rows };
+    ghost use Rattle.rows.specs.Source.{meaning};
+
+    ghost image = { meaning };
 
     ghost lawful = { λ s. s.lawful };
 
