@@ -1,6 +1,7 @@
 -- What hiding modules means. Assumes nothing.
 use Rattle.std.specs.Prelude.{◌≡◌, ℕ, Bool, true, false, cond, not, List, [], ◌∷◌, ◌++◌, length, Some, None, Option, ◌==◌, nat_lt, refl}
 use Rattle.std.specs.List.{list_any}
+use Rattle.std.specs.Option.{option_and_then}
 use Rattle.order.specs.Rank.{pairwise}
 use Rattle.provider.specs.Modules.{Content, Modules, Regular, RegularModule, absent, content}
 use Rattle.provider.proofs.Regular.{nothing_regular}
@@ -26,6 +27,11 @@ most = 64
 -- the numbers with one more; none where that would be one too many
 abbrev pub with : List ℕ → ℕ → Option (List ℕ)
 with numbers n = cond (among numbers n) (Some numbers) (cond (nat_lt (length numbers) most) (Some (numbers ++ n ∷ [])) None)
+
+-- the same for several numbers, one after another
+abbrev pub with_each : List ℕ → List ℕ → Option (List ℕ)
+with_each [] numbers = Some numbers
+with_each (n ∷ ns) numbers = option_and_then (with_each ns) (with numbers n)
 
 at_regular : (b : Bool) (c : Content) → RegularModule (content c) → RegularModule (content (cond b absent c))
 at_regular true c h = nothing_regular
