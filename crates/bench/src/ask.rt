@@ -168,7 +168,7 @@ fn ask_cursor<P: ModuleProvider>(
     times.push(format_args!("cursor {tally}"), spent)
 }
 
-#[tactic(auto, using(report::proofs::Stepping::shorter))]
+#[tactic(auto, using(resolver::proofs::Stepping::shorter))]
 fn tally_list<P: ModuleProvider>(
     resolver: &mut Resolver<P>,
     context: &Context<'_>,

@@ -30,7 +30,7 @@ pub fn write_list<P: ModuleProvider>(
     }
 }
 
-#[tactic(auto, using(crate::proofs::Stepping::shorter))]
+#[tactic(auto, using(resolver::proofs::Stepping::shorter))]
 fn write_listed<P: ModuleProvider>(
     out: &mut String,
     resolver: &mut Resolver<P>,
