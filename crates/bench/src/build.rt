@@ -2,9 +2,10 @@
 use crate::ask::write_answers;
 use crate::times::{Part, Times};
 use base::context::{Contribution, KnownStart};
+use context::build::build;
 use context::tables::{Context, Tables};
 use description::Description;
-use report::opening::open_built;
+use opening::open;
 use std::time::Duration;
 
 // The tables are a part of what building takes.
@@ -32,7 +33,10 @@ fn build_in(
     tables: &mut Tables<'_>,
 ) -> anyhow::Result<()> {
     let mut context = Context::empty();
-    let built = open_built(description, tables, &mut context);
+    let built = open(description).and_then(|provider| {
+        build(&provider, tables, &mut context)?;
+        Ok(provider)
+    });
     let spent = part.end(rt)?;
     match built {
         Ok(provider) => {

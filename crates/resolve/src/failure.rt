@@ -9,12 +9,13 @@ pub enum Failure {
     NoMemory,
 }
 
-// What is wrong with a word of the command line, or of a file of addresses.
+// What is wrong with a word of the command line, or with a line of a file of addresses or of a list of answers.
 #[derive(Clone, Copy)]
 pub enum Flaw {
     NotANumber,
     NumberTooLarge,
     ExtraWord,
+    NotOfAList,
     UnknownOption,
     NothingFollows,
     ReadTwice,
@@ -56,6 +57,7 @@ impl fmt::Display for Flaw {
             Flaw::NotANumber => "a number is decimal, or hexadecimal after 0x",
             Flaw::NumberTooLarge => "a number is at most 4294967295",
             Flaw::ExtraWord => "one address stands on a line",
+            Flaw::NotOfAList => "this is no line of a list of answers",
             Flaw::UnknownOption => "there is no such option",
             Flaw::NothingFollows => "more has to follow",
             Flaw::ReadTwice => "it can be read once only",

@@ -1,6 +1,6 @@
 // Files of addresses.
-use crate::failure::{Failure, Flaw, wrong};
-use crate::input::shown;
+use crate::failure::{Failure, Flaw};
+use crate::input::wrong_line;
 use std::alloc::Global;
 use words::number::number;
 use words::scan::{Scanner, Word};
@@ -16,10 +16,7 @@ pub fn read_addresses(
         match read_line(line) {
             Ok(Some(address)) => addresses.push(address)?,
             Ok(None) => {}
-            Err(flaw) => {
-                let path = shown(path);
-                return Err(wrong(heap, format_args!("{path}: line {n}"), flaw));
-            }
+            Err(flaw) => return Err(wrong_line(heap, path, n, flaw)),
         }
     }
     Ok(())

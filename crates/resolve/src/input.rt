@@ -1,5 +1,6 @@
 // Files, and standard input for the path `-`, which can be read once.
 use crate::failure::{Failure, Flaw, wrong};
+use std::alloc::Global;
 use std::io::{Read, Stdin};
 use std::{fs, io};
 
@@ -37,4 +38,10 @@ fn read_all(rt: &HostRuntime, mut stdin: Stdin) -> io::Result<Vec<u8>> {
 // A path, as messages have it.
 pub fn shown(path: &str) -> &str {
     if path == "-" { "standard input" } else { path }
+}
+
+// What is wrong with a line of a file.
+pub fn wrong_line(heap: Global, path: &str, number: u64, flaw: Flaw) -> Failure {
+    let path = shown(path);
+    wrong(heap, format_args!("{path}: line {number}"), flaw)
 }

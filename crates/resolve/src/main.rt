@@ -1,20 +1,26 @@
 // Reads the descriptions of images from files, builds the context of each image, prints what it holds or why it is refused, and answers which
-// function an address lies in, what its frames are, and which functions there are. Nothing is printed unless the command line, the files of
-// addresses and the descriptions are all good.
+// function an address lies in, what its frames are, and which functions there are. Lists of answers are replayed: what was answered before is
+// compared. Nothing is printed unless the command line and all files are good.
 #![tactic(auto)]
 
 mod failure;
 mod files;
 mod input;
 mod options;
+mod replay;
+mod report;
 
 use description::read_description;
 use failure::{Failure, wrong};
 use input::{Input, shown};
-use options::{Options, read_options};
+use options::{Request, read_options};
 use printing::push_escaped;
+use replay::entry::read_entries;
+use replay::write_replayed;
+use report::asked::Asked;
 use report::write_image;
 use std::process::ExitCode;
+use std::str;
 
 fn main(rt: HostRuntime) -> ExitCode {
     match run(&rt) {
@@ -30,8 +36,13 @@ fn run(rt: &HostRuntime) -> Result<(), Failure> {
     let mut input = Input::new(rt);
     let options = read_options(rt, &mut input)?;
     let mut out = String::new(rt.alloc());
-    for path in options.paths.iter() {
-        write_path(rt, &mut input, &mut out, &options, path.as_str())?;
+    for request in options.requests.iter() {
+        match request {
+            Request::Image(path) => {
+                write_path(rt, &mut input, &mut out, &options.asked, path.as_str())?;
+            }
+            Request::Replay(path) => write_list(rt, &mut input, &mut out, path.as_str())?,
+        }
     }
     rt.print(out.as_str())
         .map_err(|error| wrong(rt.alloc(), "resolve", error))
@@ -41,7 +52,7 @@ fn write_path(
     rt: &HostRuntime,
     input: &mut Input,
     out: &mut String,
-    options: &Options,
+    asked: &Asked,
     path: &str,
 ) -> Result<(), Failure> {
     let heap = rt.alloc();
@@ -54,5 +65,18 @@ fn write_path(
     out.push_str("image ")?;
     push_escaped(out, path.as_bytes())?;
     out.push_str("\n")?;
-    Ok(write_image(heap, out, &description, &options.asked)?)
+    Ok(write_image(heap, out, &description, asked)?)
+}
+
+fn write_list(
+    rt: &HostRuntime,
+    input: &mut Input,
+    out: &mut String,
+    path: &str,
+) -> Result<(), Failure> {
+    let heap = rt.alloc();
+    let bytes = input.read(rt, path)?;
+    let text = str::from_utf8(bytes.as_slice()).map_err(|error| wrong(heap, shown(path), error))?;
+    let entries = read_entries(heap, path, text)?;
+    Ok(write_replayed(heap, out, path, entries.as_slice())?)
 }

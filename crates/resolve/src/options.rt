@@ -5,23 +5,31 @@ ghost use Rattle.std.specs.Vec.Iter.{into_iter_len};
 use crate::failure::{Failure, Flaw, wrong};
 use crate::files::read_addresses;
 use crate::input::Input;
-use report::asked::{Asked, Form};
+use crate::report::asked::{Asked, Form};
 use std::alloc::Global;
 use std::env;
 use std::env::Args;
 use words::number::number;
 
+// What is to be printed, by the path of its file.
+#[derive(Drop)]
+pub enum Request {
+    Image(String),
+    // a list of answers is replayed
+    Replay(String),
+}
+
 #[derive(Drop)]
 pub struct Options {
-    pub paths: Vec<String>,
+    pub requests: Vec<Request>,
     pub asked: Asked,
 }
 
-// Where no path is given, standard input is read. The runtime is no part of the input: it gives the heap and the arguments too.
+// Where no path is given, an image is read from standard input. The runtime is no part of the input: it gives the heap and the arguments too.
 pub fn read_options(rt: &HostRuntime, input: &mut Input) -> Result<Options, Failure> {
     let heap = rt.alloc();
     let mut options = Options {
-        paths: Vec::new(heap),
+        requests: Vec::new(heap),
         asked: Asked::nothing(heap),
     };
     let mut args = env::args(rt).map_err(|error| wrong(heap, "resolve", error))?;
@@ -30,8 +38,9 @@ pub fn read_options(rt: &HostRuntime, input: &mut Input) -> Result<Options, Fail
     while let Some(word) = args.next() {
         options.take(rt, input, word, &mut args)?;
     }
-    if options.paths.is_empty() {
-        options.paths.push(String::from_str(heap, "-")?)?;
+    if options.requests.is_empty() {
+        let path = String::from_str(heap, "-")?;
+        options.requests.push(Request::Image(path))?;
     }
     Ok(options)
 }
@@ -68,6 +77,10 @@ impl Options {
                 let second = address_after(heap, option, rest)?;
                 self.asked.pairs.push((first, second))?;
             }
+            option @ "--replay" => {
+                let path = word_after(heap, option, rest)?;
+                self.requests.push(Request::Replay(path))?;
+            }
             "--frames" => self.asked.form = Form::Frames,
             "--stack" => self.asked.form = Form::Stack,
             "--list" => self.asked.list = true,
@@ -76,7 +89,7 @@ impl Options {
             option if option.starts_with("--") => {
                 return Err(wrong_word(heap, option, Flaw::UnknownOption));
             }
-            _ => self.paths.push(word)?,
+            _ => self.requests.push(Request::Image(word))?,
         }
         Ok(())
     }

@@ -1,9 +1,13 @@
-// What the port answers about the images of a list, where it differs.
-use crate::agree::agree;
-use crate::entry::Entry;
+// Replays lists of answers: answers about each image of a list anew, and tells the images that differ. docs/FORMAT.md says what a list has.
+mod agree;
+pub mod entry;
+
+use crate::report::asked::Asked;
+use crate::report::write_image;
+use agree::agree;
 use description::read_description;
-use report::asked::Asked;
-use report::write_image;
+use entry::Entry;
+use printing::push_escaped;
 use std::alloc::{AllocError, Global};
 use std::fmt::Write;
 
@@ -23,9 +27,10 @@ pub fn write_replayed(
         }
     }
     let images = entries.len();
+    push_escaped(out, path.as_bytes())?;
     writeln!(
         out,
-        "{path}: {images} images, {lines} lines, {different} images differ"
+        ": {images} images, {lines} lines, {different} images differ"
     )
 }
 

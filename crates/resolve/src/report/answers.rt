@@ -1,9 +1,9 @@
 // The answers to what is asked of an image.
-use crate::asked::{Asked, Form};
-use crate::check::write_check;
-use crate::parts::write_refusal;
-use crate::reply::{write_call, write_reply};
-use crate::stack_lines::write_stack;
+use crate::report::asked::{Asked, Form};
+use crate::report::check::write_check;
+use crate::report::parts::write_refusal;
+use crate::report::reply::{write_call, write_reply};
+use crate::report::stack_lines::write_stack;
 use addresses::Address;
 use base::refusal::Refusal;
 use context::tables::Context;

@@ -1,5 +1,5 @@
 // The frames of an address as addr2line and llvm-symbolizer write them: two lines for each, and a blank line at the end.
-use crate::parts::write_refusal;
+use crate::report::parts::write_refusal;
 use context::tables::Context;
 use frames::frame::{Frame, FrameFile};
 use image::ImageSource;

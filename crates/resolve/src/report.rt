@@ -1,25 +1,23 @@
 // What is printed for a described image: what its context holds, and the answers to what is asked of it. docs/FORMAT.md says how.
-#![tactic(auto)]
-
 mod answers;
 pub mod asked;
 mod check;
 mod frame_lines;
 mod list;
-pub mod opening;
 mod parts;
 mod print;
 mod reply;
 mod stack_lines;
 
-use crate::answers::write_answers;
-use crate::asked::Asked;
-use crate::opening::open_built;
-use crate::parts::write_refusal;
-use crate::print::write_context;
+use answers::write_answers;
+use asked::Asked;
 use base::context::{Contribution, KnownStart};
+use context::build::build;
 use context::tables::{Context, Tables};
 use description::Description;
+use opening::open;
+use parts::write_refusal;
+use print::write_context;
 use std::alloc::{AllocError, Global};
 
 // Why an image is refused, or its context and then the answers.
@@ -36,7 +34,11 @@ pub fn write_image(
         contributions: contributions.as_mut_slice(),
     };
     let mut context = Context::empty();
-    let provider = match open_built(description, &mut tables, &mut context) {
+    let built = open(description).and_then(|provider| {
+        build(&provider, &mut tables, &mut context)?;
+        Ok(provider)
+    });
+    let provider = match built {
         Ok(provider) => provider,
         Err(refusal) => return write_refusal(out, &refusal),
     };

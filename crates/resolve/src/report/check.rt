@@ -1,12 +1,12 @@
 // Whether what was answered before makes a difference. Calls are made on the resolver at hand and on fresh ones, and the answers are compared as
 // they are printed.
-use crate::opening::open;
-use crate::parts::write_refusal;
-use crate::reply::{write_call, write_reply};
+use crate::report::parts::write_refusal;
+use crate::report::reply::{write_call, write_reply};
 use addresses::Address;
 use context::tables::Context;
 use description::Description;
 use frames::frame::Frame;
+use opening::open;
 use provider::ModuleProvider;
 use resolver::resolver::Resolver;
 use std::alloc::{AllocError, Global};

@@ -1,5 +1,5 @@
 use Rattle.std.proofs.Common.{length}
-use Rattle.report.proofs.list.write_listed.Given as goal
+use Rattle.resolve.proofs.report.list.write_listed.Given as goal
 
 abbrev pub decreases-loop-function : goal.decreases-loop-function
 decreases-loop-function g l = length l.cursor.addresses.now

@@ -1,7 +1,7 @@
 // Calls, and their answers line by line.
-use crate::frame_lines::write_frames;
-use crate::list::write_list;
-use crate::parts::{write_function, write_refusal};
+use crate::report::frame_lines::write_frames;
+use crate::report::list::write_list;
+use crate::report::parts::{write_function, write_refusal};
 use base::refusal::Refusal;
 use context::tables::Context;
 use procedures::function::Function;

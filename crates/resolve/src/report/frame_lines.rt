@@ -1,6 +1,6 @@
 // The frames of an address, a line for each after one for the function.
-use crate::parts::{write_extent, write_name, write_quoted, write_refusal};
-use crate::reply::write_head;
+use crate::report::parts::{write_extent, write_name, write_quoted, write_refusal};
+use crate::report::reply::write_head;
 use base::refusal::Refusal;
 use frames::frame::{Frame, FrameFile, FunctionFrames};
 use image::ImageSource;

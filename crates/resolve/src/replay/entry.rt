@@ -1,4 +1,6 @@
 // The images of a list, each with the rows of its description and the lines that were answered.
+use crate::failure::{Failure, Flaw};
+use crate::input::wrong_line;
 use std::alloc::{AllocError, Global};
 
 #[derive(Drop)]
@@ -8,11 +10,15 @@ pub struct Entry<'a> {
     pub answers: Vec<&'a str>,
 }
 
-pub fn read_entries<'a>(heap: Global, path: &str, text: &'a str) -> anyhow::Result<Vec<Entry<'a>>> {
+pub fn read_entries<'a>(
+    heap: Global,
+    path: &str,
+    text: &'a str,
+) -> Result<Vec<Entry<'a>>, Failure> {
     let mut entries = Vec::new(heap);
     for (number, line) in (1..).zip(text.lines()) {
         if !read_line(heap, &mut entries, line)? {
-            anyhow::bail!("{path}: line {number} is none of a list");
+            return Err(wrong_line(heap, path, number, Flaw::NotOfAList));
         }
     }
     Ok(entries)

@@ -1,5 +1,5 @@
 // What a context holds, line by line.
-use crate::parts::write_quoted;
+use crate::report::parts::write_quoted;
 use base::context::{Contribution, KnownStart};
 use base::image::{Section, SectionOffset};
 use context::tables::Context;

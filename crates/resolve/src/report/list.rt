@@ -1,5 +1,5 @@
 // The list of functions.
-use crate::parts::{write_function, write_refusal};
+use crate::report::parts::{write_function, write_refusal};
 use addresses::Address;
 use base::refusal::Refusal;
 use context::tables::Context;
