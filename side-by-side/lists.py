@@ -1,10 +1,10 @@
 #!/usr/bin/env python3
-"""Writes the lists of answers that the program `replay` replays: images, what is asked of them, and what was answered.
+"""Writes the lists of answers that `resolve` replays: images, what is asked of them, and what was answered.
 
     lists.py random REFERENCE LIST          makes images as generate.py does, and asks the original
     lists.py again REFERENCE DEBUG LIST     asks the original anew about the images that a list has
     lists.py real RESOLVE FOLDER LIST       asks `resolve` about the images of a folder, here real/images
-    lists.py expected RESOLVE LIST..        prints what `replay` has to print, by what `resolve` answers
+    lists.py expected RESOLVE LIST..        prints what `resolve --replay` has to print, by what `resolve` answers
 
 DEBUG is the original built with -C debug-assertions=on. It is asked where an image's title ends in `, debug`. Where it ends in
 `, one context`, all is asked of one context of the original, and where it ends in `, function_count` its own count is printed.
