@@ -31,6 +31,14 @@ before_reach end k (s ∷ sites) none some = lt-leb s.end k (some s refl)
 pub before_end : (end k : ℕ) (sites : List OpenSite) (s : OpenSite) → slice_get sites 0 ≡ Some s → k < s.end → nat_le (reach end (map (λ s. s.end) sites)) k ≡ false
 before_end end k sites s i l = before_reach end k sites (λ e. cc) (λ t e. let same : s ≡ t = cc in subst (λ u. k < u.end) same l)
 
+-- what is no procedure and no site is passed over
+pub passes : (y : Symbol) → ((o : SectionOffset) (length end : ℕ) (t : ℕ) (name : TextPart) → y ≡ ProcedureSymbol o length end t name → ⊥) → ((inlinee end : ℕ) → y ≡ InlineSite inlinee end → ⊥) → class y ≡ passed
+passes (ProcedureSymbol o length end t name) f g = absurd (f o length end t name refl)
+passes (Thunk o length end name) f g = refl
+passes (SeparatedCode o length end parent) f g = refl
+passes (InlineSite inlinee end) f g = absurd (g inlinee end refl)
+passes Other f g = refl
+
 -- the innermost site is the one that opened last
 ends_opened : (m : ℕ) (rows : Site → List SiteRow) (s : Site) (w v : Walked) → Ok v ≡ opened m rows s w → map (λ o. o.end) v.sites ≡ s.end ∷ map (λ o. o.end) w.sites
 ends_opened m rows s w v o = on (nat_le most_open (length w.sites)) (with_rows m s.item (length w.sites) s.inlinee w.ranges (rows s)) o
@@ -60,14 +68,7 @@ module _ (m : ℕ) (x : Module) (p : Procedure) (k : ℕ) (r : SymbolRecord) (ol
     procedure_within to found rs = rw (none, before, found) refl
 
     pub record_other : ((o : SectionOffset) (length end : ℕ) (t : ℕ) (name : TextPart) → r.symbol ≡ ProcedureSymbol o length end t name → ⊥) → ((inlinee end : ℕ) → r.symbol ≡ InlineSite inlinee end → ⊥) → Stepped m x p k r old old (Ok true)
-    record_other f g rs = let e = other r.symbol f g in rw (none, before, e) refl
-      where
-        other : (y : Symbol) → ((o : SectionOffset) (length end : ℕ) (t : ℕ) (name : TextPart) → y ≡ ProcedureSymbol o length end t name → ⊥) → ((inlinee end : ℕ) → y ≡ InlineSite inlinee end → ⊥) → class y ≡ passed
-        other (ProcedureSymbol o length end t name) f g = absurd (f o length end t name refl)
-        other (Thunk o length end name) f g = refl
-        other (SeparatedCode o length end parent) f g = refl
-        other (InlineSite inlinee end) f g = absurd (g inlinee end refl)
-        other Other f g = refl
+    record_other f g rs = let e = passes r.symbol f g in rw (none, before, e) refl
 
   -- at or past the end of the innermost site
   pub close_refused : (s : OpenSite) → slice_get (walk_of old).sites 0 ≡ Some s → s.end ≤ r.index → (e : Refusal) (q : Result Bool Refusal) → Err e ≡ closed m (walk_of old) → q ≡ Err e → Stepped m x p k r old new q

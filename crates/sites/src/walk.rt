@@ -51,19 +51,17 @@ impl Walk {
         }
     }
 
-    // Goes along a procedure, from the record after its own to the last one, and closes what is open then.
+    // Goes along a procedure, from the record at number `first` to the last one, and closes what is open then.
     pub(crate) fn along<P: ModuleProvider>(
         &mut self,
         provider: &P,
         module: u16,
         procedure: &Procedure,
+        first: u32,
     ) -> Result<(), Refusal>
-        ensures { let x = content ((P.ModuleProvider.modules provider.now).at «module») in leaves result (walk_of self.new) ≡ onward «module» x procedure.now (procedure.now.item + 1) self.old (drop (procedure.now.item + 1) x.symbols) }
+        ensures { let x = content ((P.ModuleProvider.modules provider.now).at «module») in leaves result (walk_of self.new) ≡ onward «module» x procedure.now first self.old (drop first x.symbols) }
     {
-        // past the highest number there are no records
-        if let Some(first) = procedure.item.checked_add(1) {
-            self.follow(provider, module, procedure, first)?;
-        }
+        self.follow(provider, module, procedure, first)?;
         self.close_all(module)
     }
 
