@@ -1,4 +1,4 @@
-use Rattle.std.proofs.Common.{◌+◌, ◌^◌, ◌<◌, sym, arith}
+use Rattle.std.proofs.Common.{rules, ◌+◌, ◌^◌, ◌<◌, sym, arith}
 use Rattle.context.specs.Context.{meaning}
 use Rattle.lookup.proofs.Extents.{located_address}
 use Rattle.stack.proofs.find.find_frames.Goals as goal
@@ -18,3 +18,15 @@ returns-clause-table g c =
     let fits : l.base + l.offset.offset < 2 ^ 32 = (let f = c.ranges.address.fits in omega arith) in
     let table = c.frames_at.ensures.table fits in
     search arith
+
+pub returns-in_err-want-clause-answer : goal.returns-in_err-want-clause-answer
+returns-in_err-want-clause-answer g c = search rules
+
+pub returns-in_err-want-clause-table : goal.returns-in_err-want-clause-table
+returns-in_err-want-clause-table g c = search rules
+
+pub returns-in_err-want-clause-shelf : goal.returns-in_err-want-clause-shelf
+returns-in_err-want-clause-shelf g c = search rules
+
+pub returns-clause-shelf : goal.returns-clause-shelf
+returns-clause-shelf g c = search rules

@@ -1,4 +1,5 @@
 use Rattle.std.proofs.Common.{rules, ◌≡◌, ◌+◌, ◌-◌, ◌<◌, ltb, false, [], ◌∷◌, ◌++◌, map, reverse, length, take, drop, set, get_or, None, sym, refl, ap, ◌∙◌, subst, arith}
+use Rattle.std.proofs.lemmas.Grind.{common_steps}
 use Rattle.std.proofs.lemmas.List.{get_or-reverse, length-reverse, length-append, length-map}
 use Rattle.std.proofs.lemmas.Bool.{cond-false, le-ltb}
 use Rattle.provider.specs.Modules.{content}
@@ -32,3 +33,9 @@ returns-clause-table g c =
     all_written f calls old c.loop-k.frames last n refl room (subst (λ m. c.loop-k.frames ≡ map f (take m (reverse calls)) ++ drop m old) all c.loop-k.invariant) ∙
     sym (ap {A = Written} (λ w. w.table) (cond-false _ _ _ fits)) ∙
     ap (λ cs. (fitted old c.args.function.now (reverse (map f cs) ++ last ∷ [])).table) c.used-calls.ensures
+
+pub returns-then-frames-inlined-clause-answer : goal.returns-then-frames-inlined-clause-answer
+returns-then-frames-inlined-clause-answer g c = grind (arith, common_steps)
+
+pub returns-then-frames-inlined-clause-table : goal.returns-then-frames-inlined-clause-table
+returns-then-frames-inlined-clause-table g c = grind (arith, common_steps)
