@@ -1,0 +1,5 @@
+use Rattle.std.proofs.Common.{rules}
+use Rattle.table.proofs.search.Sorted.reach.Goals as goal
+
+pub returns : goal.returns
+returns g c = search rules
