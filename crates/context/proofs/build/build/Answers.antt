@@ -65,3 +65,6 @@ returns-in-Err-clause-runs g c = blocks_are_runs (all_kept (g.S.ImageSource.imag
 
 pub returns-in-Err-clause-one : goal.returns-in-Err-clause-one
 returns-in-Err-clause-one g c = one_outcome (g.S.ImageSource.image c.args.source.now) (length c.args.tables.now.starts.now) (length c.args.tables.now.contributions.now)
+
+pub returns-in-Err-clause-contributions : goal.returns-in-Err-clause-contributions
+returns-in-Err-clause-contributions g c = search rules
