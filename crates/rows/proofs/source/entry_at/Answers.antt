@@ -1,0 +1,5 @@
+use Rattle.std.proofs.Common.{rules}
+use Rattle.rows.proofs.source.entry_at.Goals as goal
+
+pub returns-in-None : goal.returns-in-None
+returns-in-None g c = search rules
