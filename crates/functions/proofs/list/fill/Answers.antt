@@ -58,3 +58,6 @@ loop-module-preserved g c =
       lender = h.slice.0 ∙ l.invariant.lender;
       long = h.slice.1 ∙ l.invariant.long;
     }
+
+pub loop-module-init : goal.loop-module-init
+loop-module-init g c = search rules
