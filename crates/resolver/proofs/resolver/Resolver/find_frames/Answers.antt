@@ -1,3 +1,4 @@
+use Rattle.std.proofs.Common.{rules}
 use Rattle.context.specs.Context.{meaning}
 use Rattle.inlining.proofs.Depth.{depth}
 use Rattle.inlining.proofs.Agreeing.{agrees}
@@ -25,3 +26,12 @@ returns-clause-longest g c = longest
 
 pub returns-clause-greatest : goal.returns-clause-greatest
 returns-clause-greatest g c = (λ rows. first_greatest _ rows, λ ranges. first_greatest _ ranges)
+
+pub returns-clause-answer : goal.returns-clause-answer
+returns-clause-answer g c = search rules
+
+pub returns-clause-table : goal.returns-clause-table
+returns-clause-table g c = search rules
+
+pub returns-clause-shelf : goal.returns-clause-shelf
+returns-clause-shelf g c = search rules

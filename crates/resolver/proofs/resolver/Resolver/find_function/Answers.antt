@@ -1,4 +1,4 @@
-use Rattle.std.proofs.Common.{◌+◌, ◌^◌, ◌<◌, sym, arith}
+use Rattle.std.proofs.Common.{◌+◌, ◌^◌, ◌<◌, sym, rules, arith}
 use Rattle.context.specs.Context.{meaning}
 use Rattle.lookup.proofs.Extents.{located_address}
 use Rattle.resolver.proofs.resolver.Resolver.find_function.Goals as goal
@@ -11,3 +11,6 @@ returns-clause-answer g c =
     let choice = c.choose-choice.ensures.chosen in
     let answer = c.by_choice.ensures fits c.choose-choice.ensures.covers in
     search arith
+
+pub returns-in_default-clause-answer : goal.returns-in_default-clause-answer
+returns-in_default-clause-answer g c = search rules

@@ -1,3 +1,4 @@
+use Rattle.std.proofs.Common.{rules}
 use Rattle.context.specs.Context.{meaning}
 use Rattle.lookup.proofs.Choosing.{starts-last}
 use Rattle.lookup.proofs.Extents.{extents}
@@ -27,3 +28,6 @@ returns-clause-extents g c =
 
 pub returns-clause-chosen : goal.returns-clause-chosen
 returns-clause-chosen g c o = starts-last o (shelved c.args.self.now.shelf).procedures c.args.self.now.shelf.rises
+
+pub returns-clause-answer : goal.returns-clause-answer
+returns-clause-answer g c = search rules
