@@ -1,7 +1,9 @@
+pub mod Keywords
+pub mod Steps
 pub mod Growing
-pub mod Options
-pub mod Saying
+pub mod Cutting
 pub mod Shortness
 pub mod Sizes
 pub mod Naming
 pub mod Soundness
+pub mod Examples

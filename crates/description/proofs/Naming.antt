@@ -1,25 +1,27 @@
 -- Quoted names lie within the text. Assumes nothing.
-use Rattle.std.proofs.Common.{◌≡◌, ℕ, List, [], ◌∷◌, ◌++◌, length, Some, None, Option, subst, arith, rules, length-append}
+use Rattle.std.proofs.Common.{◌≡◌, ℕ, List, [], ◌∷◌, ◌++◌, length, Some, None, Ok, Option, IfSome, subst, arith, rules, length-append}
 use Rattle.std.proofs.ByRecursion.{All-weaker, All-push}
 use Rattle.std.specs.List.{AllByRecursion}
 use Rattle.base.specs.declared.image.TextPart.{TextPart}
 use Rattle.provider.specs.declared.symbols.Symbol.{Symbol}
 use Rattle.provider.specs.declared.symbols.Symbol.TheVariants.{Procedure, Thunk}
-use Rattle.std.proofs.lemmas.Option.{option_and_then_some}
 use Rattle.words.specs.Quotes.{unquoted}
 use Rattle.description.specs.declared.row.ImageRow.{ImageRow}
 use Rattle.description.specs.declared.row.ImageRow.TheVariants.{Public}
-use Rattle.description.specs.declared.row.Line.{Line as RowLine}
 use Rattle.description.specs.declared.row.ModulePart.{ModulePart}
 use Rattle.description.specs.declared.row.ModulePart.TheVariants.{Symbol as SymbolPart, SymbolsEnd, Extras, File}
 use Rattle.description.specs.declared.row.Row.{Row}
 use Rattle.description.specs.declared.row.Row.TheVariants.{Text, Image, Module, Part}
-use Rattle.description.specs.Drafts.{ImageLists, PartLists, Lists, nothing, image_added, part_pushed, row_added, line_said, said}
+use Rattle.description.specs.Drafts.{ImageLists, PartLists, Lists, nothing, image_added, part_pushed, row_added, row_said, written_said, line_said}
 use Rattle.description.specs.Lists.{short, pushed, appended}
+use Rattle.description.specs.Reading.{Written, line_row}
+use Rattle.description.specs.Sound.{QuotingLine}
+use Rattle.description.specs.declared.mistake.Mistake.TheVariants.{BadEscape, TextTooLong, TooManyRows}
+use Rattle.std.specs.Option.{ok_or}
 use Rattle.description.specs.Names.{SymbolName, ImageName, PartName, RowName, Quoting, Within, Named}
 use Rattle.description.specs.Rows.{symbol_named, named}
 use Rattle.description.proofs.Growing.{module-grown}
-use Rattle.description.proofs.Options.{at_some, at_mapped, short-same}
+use Rattle.description.proofs.Steps.{and_then_ok, at_ok, at_mapped, short-same}
 
 -- what a symbol, an image and a module's part have of names
 symbol_weaker : (P Q : TextPart → Type 0) → ((n : TextPart) → P n → Q n) → (s : Symbol) → SymbolName P s → SymbolName Q s
@@ -46,26 +48,26 @@ row_bears P n h (Part (File s)) = h
 row_bears P n h r = tt
 
 -- one row more of which P holds
-pushed_all : {X : Type 0} (P : X → Type 0) (xs : List X) (x : X) (ys : List X) → pushed xs x ≡ Some ys → AllByRecursion P xs → P x → AllByRecursion P ys
-pushed_all P xs x ys e h p = subst (AllByRecursion P) (short-same (xs ++ x ∷ []) ys e) (All-push P xs x h p)
+pushed_all : {X : Type 0} (P : X → Type 0) (xs : List X) (x : X) (ys : List X) → pushed xs x ≡ Ok ys → AllByRecursion P xs → P x → AllByRecursion P ys
+pushed_all P xs x ys e h p = subst (AllByRecursion P) (short-same TooManyRows (xs ++ x ∷ []) ys e) (All-push P xs x h p)
 
 record NamedParts (P : TextPart → Type 0) (a : PartLists) : Type 0 where
   symbols : AllByRecursion (λ s. SymbolName P s.symbol) a.symbols
   files : AllByRecursion (λ f. P f.name) a.files
 
-image-names : (P : TextPart → Type 0) (r : ImageRow) (a b : ImageLists) → image_added r a ≡ Some b → ImageName P r → AllByRecursion (λ s. P s.name) a.symbols → AllByRecursion (λ s. P s.name) b.symbols
+image-names : (P : TextPart → Type 0) (r : ImageRow) (a b : ImageLists) → image_added r a ≡ Ok b → ImageName P r → AllByRecursion (λ s. P s.name) a.symbols → AllByRecursion (λ s. P s.name) b.symbols
 image-names P (Public s) a b e n h = at_mapped (λ z. AllByRecursion (λ s. P s.name) z.symbols) _ _ b e (λ x p. pushed_all (λ s. P s.name) a.symbols s x p h n)
 image-names P r a b e n h = at_mapped (λ z. AllByRecursion (λ s. P s.name) z.symbols) _ _ b e (λ x p. h)
 
-part-names : (P : TextPart → Type 0) (p : ModulePart) (a b : PartLists) → part_pushed p a ≡ Some b → PartName P p → NamedParts P a → NamedParts P b
+part-names : (P : TextPart → Type 0) (p : ModulePart) (a b : PartLists) → part_pushed p a ≡ Ok b → PartName P p → NamedParts P a → NamedParts P b
 part-names P (SymbolPart r) a b e n h = at_mapped (NamedParts P) _ _ b e (λ x p. record { symbols = pushed_all (λ s. SymbolName P s.symbol) a.symbols r x p h.symbols n; files = h.files })
 part-names P (File r) a b e n h = at_mapped (NamedParts P) _ _ b e (λ x p. record { symbols = h.symbols; files = pushed_all (λ f. P f.name) a.files r x p h.files n })
-part-names P (SymbolsEnd r) a b e n h = at_some (NamedParts P) a b e h
-part-names P (Extras r) a b e n h = at_some (NamedParts P) a b e h
+part-names P (SymbolsEnd r) a b e n h = at_ok (NamedParts P) a b e h
+part-names P (Extras r) a b e n h = at_ok (NamedParts P) a b e h
 part-names P p a b e n h = at_mapped (NamedParts P) _ _ b e (λ x q. record { symbols = h.symbols; files = h.files })
 
-row_names : (r : Row) (a b : Lists) → row_added r a ≡ Some b → RowName (Within a.text) r → Named a → Named b
-row_names Text a b e n h = at_some Named a b e h
+row_names : (r : Row) (a b : Lists) → row_added r a ≡ Ok b → RowName (Within a.text) r → Named a → Named b
+row_names Text a b e n h = at_ok Named a b e h
 row_names (Image r) a b e n h = at_mapped Named _ _ b e (λ x p. let k = image-names (Within a.text) r a.image x p n h.publics in search rules)
 row_names (Module s) a b e n h = at_mapped Named _ _ b e (λ x p. at_mapped (λ z. Named (record a { modules = z })) _ _ x p (λ ms d. search rules))
 row_names (Part s) a b e n h =
@@ -83,18 +85,26 @@ longer a bs h =
     }
 
 -- what is appended lies within the text
-text-names : (a : Lists) (raw : List ℕ) (q : List ℕ × TextPart) → appended raw a.text ≡ Some q → Named a → Within q.0 q.1 × Named (record a { text = q.0 })
+text-names : (a : Lists) (raw : List ℕ) (q : List ℕ × TextPart) → appended raw a.text ≡ Ok q → Named a → Within q.0 q.1 × Named (record a { text = q.0 })
 text-names a raw q e h =
-    option_and_then_some _ (unquoted raw) q e (λ bs _ f. at_mapped (λ (z : List ℕ × TextPart). Within z.0 z.1 × Named (record a { text = z.0 })) _ (short (a.text ++ bs)) q f (λ new p. subst (λ (t : List ℕ). Within t (record { start = length a.text; length = length bs }) × Named (record a { text = t })) (short-same (a.text ++ bs) new p) (omega (arith, length-append a.text bs), longer a bs h)))
+    and_then_ok _ (ok_or (unquoted raw) BadEscape) q e (λ bs _ f. at_mapped (λ (z : List ℕ × TextPart). Within z.0 z.1 × Named (record a { text = z.0 })) _ (short TextTooLong (a.text ++ bs)) q f (λ new p. subst (λ (t : List ℕ). Within t (record { start = length a.text; length = length bs }) × Named (record a { text = t })) (short-same TextTooLong (a.text ++ bs) new p) (omega (arith, length-append a.text bs), longer a bs h)))
 
-line_names : (o : Option _) (r : Row) (a b : Lists) → line_said (record { row = r; quoted = o }) a ≡ Some b → Quoting (record { row = r; quoted = o }) → Named a → Named b
-line_names None r a b e n h = row_names r a b e (row_weaker (λ _. ⊥) (Within a.text) (λ _ z. absurd z) r n) h
-line_names (Some raw) r a b e n h =
-    option_and_then_some _ (appended raw.now a.text) b e (λ q p f. let k = text-names a raw.now q p h in row_names (named q.1 r) (record a { text = q.0 }) b f (row_bears (Within q.0) q.1 k.0 r) k.1)
+quoted_names : (o : Option (List ℕ)) (r : Row) (a b : Lists) → row_said r o a ≡ Ok b → Quoting (record { row = r; quoted = o }) → Named a → Named b
+quoted_names None r a b e n h = row_names r a b e (row_weaker (λ _. ⊥) (Within a.text) (λ _ z. absurd z) r n) h
+quoted_names (Some raw) r a b e n h =
+    and_then_ok _ (appended raw a.text) b e (λ q p f. let k = text-names a raw q p h in row_names (named q.1 r) (record a { text = q.0 }) b f (row_bears (Within q.0) q.1 k.0 r) k.1)
 
-pub said-names : (ls : List RowLine) (a b : Lists) → said ls a ≡ Some b → AllByRecursion Quoting ls → Named a → Named b
-said-names [] a b e n h = at_some Named a b e h
-said-names (l ∷ ls) a b e n h = option_and_then_some _ (line_said l a) b e (λ m p f. said-names ls m b f n.1 (line_names l.quoted l.row a m p n.0 h))
+written_names : (o : Option Written) (a b : Lists) → written_said o a ≡ Ok b → IfSome o Quoting → Named a → Named b
+written_names None a b e n h = at_ok Named a b e h
+written_names (Some w) a b e n h = quoted_names w.quoted w.row a b e n h
+
+quotes : (line : List ℕ) (o : Option Written) → line_row line ≡ Ok o → QuotingLine line → IfSome o Quoting
+quotes line None e q = tt
+quotes line (Some w) e q = q w e
+
+pub line-names : (line : List ℕ) (a b : Lists) → line_said line a ≡ Ok b → QuotingLine line → Named a → Named b
+unfolding line_said
+line-names line a b e n h = and_then_ok _ (line_row line) b e (λ o p f. written_names o a b f (quotes line o p n) h)
 
 pub nothing-names : Named nothing
 nothing-names = record { publics = tt; symbols = tt; files = tt }

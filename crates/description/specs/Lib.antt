@@ -1,5 +1,11 @@
+pub mod Checks
+pub mod Words
+pub mod Fields
+pub mod Reading
 pub mod Rows
+pub mod Mistakes
 pub mod Lists
 pub mod Drafts
 pub mod Names
 pub mod Described
+pub mod Sound

@@ -6,12 +6,12 @@ use Rattle.provider.specs.declared.symbols.Symbol.{Symbol}
 use Rattle.provider.specs.declared.symbols.Symbol.TheVariants.{Procedure, Thunk}
 use Rattle.description.specs.declared.row.ImageRow.{ImageRow}
 use Rattle.description.specs.declared.row.ImageRow.TheVariants.{Public}
-use Rattle.description.specs.declared.row.Line.{Line as RowLine}
 use Rattle.description.specs.declared.row.ModulePart.{ModulePart}
 use Rattle.description.specs.declared.row.ModulePart.TheVariants.{Symbol as SymbolPart, File}
 use Rattle.description.specs.declared.row.Row.{Row}
 use Rattle.description.specs.declared.row.Row.TheVariants.{Image, Part}
 use Rattle.description.specs.Drafts.{Lists}
+use Rattle.description.specs.Reading.{Written}
 
 -- P holds of the name, if there is one
 abbrev pub SymbolName : (TextPart → Type 0) → Symbol → Type 0
@@ -34,8 +34,8 @@ RowName P (Part p) = PartName P p
 RowName P r = Unit {0}
 
 -- a name that the row bears is quoted, and not given by its place
-abbrev pub Quoting : RowLine → Type 0
-Quoting l = elim l.quoted [ None ↦ RowName (λ n. ⊥) l.row | Some raw ↦ Unit {0} ]
+abbrev pub Quoting : Written → Type 0
+Quoting w = elim w.quoted [ None ↦ RowName (λ n. ⊥) w.row | Some raw ↦ Unit {0} ]
 
 abbrev pub Within : List ℕ → TextPart → Type 0
 Within text n = n.start + n.length ≤ length text

@@ -1,33 +1,13 @@
--- What is asked of rows, and their names. Assumes nothing.
-use Rattle.std.specs.Prelude.{ℕ, ◌^◌, ◌≤◌, cond, List, Some, None, Option, nat_le}
-use Rattle.std.specs.Option.{option_and_then}
-use Rattle.std.specs.Result.{result_ok}
+-- The name that a row bears. Assumes nothing.
 use Rattle.base.specs.declared.image.TextPart.{TextPart}
 use Rattle.provider.specs.declared.symbols.Symbol.{Symbol}
 use Rattle.provider.specs.declared.symbols.Symbol.TheVariants.{Procedure, Thunk}
-use Rattle.words.specs.Numbers.{number_of}
 use Rattle.description.specs.declared.row.ImageRow.{ImageRow}
-use Rattle.description.specs.declared.row.ImageRow.TheVariants.{Public, StartTable, ContributionTable, FrameTable, AddressTable}
+use Rattle.description.specs.declared.row.ImageRow.TheVariants.{Public}
 use Rattle.description.specs.declared.row.ModulePart.{ModulePart}
 use Rattle.description.specs.declared.row.ModulePart.TheVariants.{Symbol as SymbolPart, File}
 use Rattle.description.specs.declared.row.Row.{Row}
 use Rattle.description.specs.declared.row.Row.TheVariants.{Image, Part}
-
--- the number that a word writes, if it is at most `most`
-abbrev pub bounded : List ℕ → ℕ → Option ℕ
-bounded word most = option_and_then (λ n. cond (nat_le n most) (Some n) None) (result_ok (number_of word))
-
--- a table is not said to have too many rows
-abbrev pub FittingImage : ImageRow → Type 0
-FittingImage (StartTable n) = n ≤ 2 ^ 24
-FittingImage (ContributionTable n) = n ≤ 2 ^ 24
-FittingImage (FrameTable n) = n ≤ 2 ^ 24
-FittingImage (AddressTable n) = n ≤ 2 ^ 24
-FittingImage r = Unit {0}
-
-abbrev pub Fitting : Row → Type 0
-Fitting (Image r) = FittingImage r
-Fitting r = Unit {0}
 
 -- what bears a name, with the name n
 abbrev pub symbol_named : TextPart → Symbol → Symbol

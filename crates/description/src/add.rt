@@ -1,6 +1,8 @@
 // What a row adds.
-ghost use Rattle.std.specs.Prelude.{◌≡◌, IfOk, Some, OnOk};
-ghost use Rattle.description.specs.Drafts.{image_lists, image_added, part_lists, part_pushed, told_with, module_with, new_module, module_lists, module_opened, module_grown, lists, row_added, line_said, list_grown, longer_lines, longer_site, parted};
+ghost use Rattle.std.specs.Prelude.{◌≡◌, Some};
+ghost use Rattle.description.specs.Checks.{Checked};
+ghost use Rattle.description.specs.Reading.{written};
+ghost use Rattle.description.specs.Drafts.{image_lists, image_added, part_lists, part_pushed, told_with, module_with, new_module, module_lists, module_opened, module_grown, lists, row_added, written_said, Adds, list_grown, longer_lines, longer_site, parted};
 
 use crate::draft::{Draft, ImageDraft, ModuleDraft};
 use crate::mistake::{AddError, Mistake};
@@ -13,7 +15,7 @@ use provider::symbols::ModuleState;
 
 impl Draft {
     pub fn add(&mut self, line: Line<'_>) -> Result<(), AddError>
-        ensures { OnOk result (line_said line.entry (lists self.old) ≡ Some (lists self.new)) }
+        ensures { Adds result (written_said (Some (written line.entry)) (lists self.old)) (lists self.new) }
     {
         match line.quoted {
             Some(raw) => {
@@ -25,7 +27,7 @@ impl Draft {
     }
 
     fn add_row(&mut self, row: Row) -> Result<(), AddError>
-        ensures { OnOk result (row_added row (lists self.old) ≡ Some (lists self.new)) }
+        ensures { Adds result (row_added row (lists self.old)) (lists self.new) }
     {
         match row {
             Row::Text => Ok(()),
@@ -40,7 +42,7 @@ impl Draft {
 
 impl ImageDraft {
     fn add(&mut self, row: ImageRow) -> Result<(), AddError>
-        ensures { OnOk result (image_added row (image_lists self.old) ≡ Some (image_lists self.new)) }
+        ensures { Adds result (image_added row (image_lists self.old)) (image_lists self.new) }
     {
         match row {
             ImageRow::Section(section) => push_row(&mut self.tables.sections, section),
@@ -86,7 +88,7 @@ impl ImageDraft {
 impl ModuleDraft {
     // A module that has nothing yet.
     fn open(&mut self, state: ModuleState) -> Result<(), AddError>
-        ensures { OnOk result (module_opened state (module_lists self.old) ≡ Some (module_lists self.new)) }
+        ensures { Adds result (module_opened state (module_lists self.old)) (module_lists self.new) }
     {
         push_row(&mut self.tables.modules, self.tables.parts.module(state))?;
         self.told = Told::default();
@@ -94,7 +96,7 @@ impl ModuleDraft {
     }
 
     fn add(&mut self, part: ModulePart) -> Result<(), AddError>
-        ensures { OnOk result (module_grown part (module_lists self.old) ≡ Some (module_lists self.new)) }
+        ensures { Adds result (module_grown part (module_lists self.old)) (module_lists self.new) }
     {
         let module = take_last(&mut self.tables.modules, Mistake::NoModule)?;
         self.told = told_with(self.told, part)?;
@@ -105,7 +107,7 @@ impl ModuleDraft {
 
 // What was said of the newest module, and now the part too, unless that cannot come.
 fn told_with(told: Told, part: ModulePart) -> Result<Told, Mistake>
-    ensures { IfOk result (λ t. told_with part told ≡ Some t) }
+    ensures { result ≡ told_with part told }
 {
     let mut now = told;
     match part {
@@ -124,7 +126,7 @@ fn told_with(told: Told, part: ModulePart) -> Result<Told, Mistake>
 
 // The module, with a part more.
 fn module_with(module: ModuleRow, part: ModulePart) -> Result<ModuleRow, Mistake>
-    ensures { IfOk result (λ m. m ≡ module_with part «module») }
+    ensures { result ≡ module_with part «module» }
 {
     let mut now = module;
     match part {
@@ -155,7 +157,7 @@ impl PartTables {
     }
 
     fn push(&mut self, part: ModulePart) -> Result<(), AddError>
-        ensures { OnOk result (part_pushed part (part_lists self.old) ≡ Some (part_lists self.new)) }
+        ensures { Adds result (part_pushed part (part_lists self.old)) (part_lists self.new) }
     {
         match part {
             ModulePart::Symbol(record) => push_row(&mut self.symbols, record),
@@ -196,11 +198,11 @@ impl PartTables {
 
 // A list that names its part of the rows.
 trait RowList: Sized {
-    ghost longer: { Self → Self };
+    ghost longer: { Self → Checked Self };
 
     // The list with the row that comes next.
     fn longer(self) -> Result<Self, Mistake>
-        ensures { IfOk result (λ l. l ≡ longer self) };
+        ensures { result ≡ longer self };
 }
 
 impl RowList for LineList {
@@ -228,7 +230,7 @@ impl RowList for SiteList {
 impl<L: RowList + Drop, R: Drop> ListTables<L, R> {
     // A row more of the newest list.
     fn push(&mut self, row: R, none: Mistake) -> Result<(), AddError>
-        ensures { OnOk result (list_grown L.longer row (parted self.old) ≡ Some (parted self.new)) }
+        ensures { Adds result (list_grown none L.longer row (parted self.old)) (parted self.new) }
     {
         let list = take_last(&mut self.lists, none)?;
         push_row(&mut self.lists, list.longer()?)?;

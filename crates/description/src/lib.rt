@@ -1,10 +1,10 @@
 // Reads the description of an image, a text of one row to a line, into the image's rows.
 #![tactic(auto)]
 
-ghost use Rattle.std.specs.Prelude.{◌≡◌, IfOk, OnOk};
+ghost use Rattle.std.specs.Prelude.{◌≡◌};
 ghost use Rattle.std.specs.Option.{unwrap_or};
-ghost use Rattle.description.specs.Drafts.{nothing, lists, Says};
-ghost use Rattle.description.specs.Described.{described, starts_at_most, addresses_at_most, Sound};
+ghost use Rattle.description.specs.Drafts.{nothing, image_lists, lists, line_said, Adds};
+ghost use Rattle.description.specs.Described.{content, numbered, described, description_of, starts_at_most, addresses_at_most, Reads};
 
 mod add;
 mod draft;
@@ -27,6 +27,7 @@ use read::read_row;
 use said::{Said, Told};
 use std::alloc::Global;
 use tables::{ImageTables, ListTables, ModuleTables, PartTables};
+use words::scan::cut;
 
 // An image with its modules, row by row; how many rows the tables have that a context for it is built in; which modules are hidden; and
 // what is asked.
@@ -45,16 +46,19 @@ pub struct Description {
     pub questions: Vec<Question>,
 }
 
-#[tactic(auto, using(crate::proofs::Soundness::drafts))]
+#[tactic(auto, using(crate::proofs::Cutting::lines))]
 pub fn read_description(heap: Global, input: &[u8]) -> Result<Description, ReadError>
-    ensures { IfOk result Sound }
+    ensures { Reads content result (description_of input.now) }
 {
     let mut draft = new_draft(heap);
-    for (number, line) in (1..).zip(input.split(|b| *b == b'\n')) {
-        if let Err(error) = read_line(&mut draft, line) {
-            return Err(error.at(number));
-        }
+    let mut number = 1;
+    let mut rest = input;
+    while let Some((line, below)) = cut(rest, b'\n') {
+        read_line(&mut draft, number, line)?;
+        number += 1;
+        rest = below;
     }
+    read_line(&mut draft, number, rest)?;
     Ok(finish(draft))
 }
 
@@ -88,9 +92,18 @@ fn new_draft(heap: Global) -> Draft
     }
 }
 
-#[tactic(auto, using(crate::proofs::Saying::says_row))]
-fn read_line(draft: &mut Draft, line: &[u8]) -> Result<(), AddError>
-    ensures { OnOk result (Says (lists draft.old) (lists draft.new)) }
+fn read_line(draft: &mut Draft, number: u64, line: &[u8]) -> Result<(), ReadError>
+    ensures { Reads (λ _. lists draft.new) result (numbered number (line_said line.now (lists draft.old))) }
+{
+    match add_line(draft, line) {
+        Ok(()) => Ok(()),
+        Err(error) => Err(error.at(number)),
+    }
+}
+
+#[tactic(auto, unfolding(crate::specs::Drafts::line_said))]
+fn add_line(draft: &mut Draft, line: &[u8]) -> Result<(), AddError>
+    ensures { Adds result (line_said line.now (lists draft.old)) (lists draft.new) }
 {
     match read_row(line)? {
         Some(line) => draft.add(line),
@@ -100,10 +113,10 @@ fn read_line(draft: &mut Draft, line: &[u8]) -> Result<(), AddError>
 
 // A table whose size is not said has room for every row that can come into it.
 fn finish(draft: Draft) -> Description
-    ensures { result ≡ described draft }
+    ensures { content result ≡ described (lists draft) }
 {
     let said = draft.image.said;
-    let starts = most_starts(&draft.image.tables);
+    let starts = most_starts(&draft.image);
     let contributions = draft.image.tables.contributions.len();
     let addresses = most_addresses(&draft);
     Description {
@@ -122,17 +135,18 @@ fn finish(draft: Draft) -> Description
 }
 
 // Each public symbol, contribution and section may give a start.
-fn most_starts(image: &ImageTables) -> usize
-    ensures { result ≡ starts_at_most image.now }
+fn most_starts(draft: &ImageDraft) -> usize
+    ensures { result ≡ starts_at_most (image_lists draft.now) }
 {
+    let image = &draft.tables;
     image.symbols.len() + image.contributions.len() + image.sections.len()
 }
 
 // Each known start and each symbol record may give an address.
 fn most_addresses(draft: &Draft) -> usize
-    ensures { result ≡ addresses_at_most draft.now }
+    ensures { result ≡ addresses_at_most (lists draft.now) }
 {
-    most_starts(&draft.image.tables) + draft.modules.tables.parts.symbols.len()
+    most_starts(&draft.image) + draft.modules.tables.parts.symbols.len()
 }
 
 fn rows_or(said: Option<u32>, enough: usize) -> usize

@@ -1,6 +1,7 @@
 // What is wrong with a description, and where.
 ghost use Rattle.std.specs.Prelude.{◌≡◌};
 ghost use Rattle.description.specs.declared.mistake.AddError.TheVariants.{NoMemory, Wrong};
+ghost use Rattle.description.specs.Mistakes.{quote_mistake, at_line};
 
 use std::alloc::{AllocError, AllocFailed};
 use std::fmt;
@@ -113,6 +114,8 @@ impl<T: Drop> From<AllocFailed<T>> for AddError {
 }
 
 impl From<QuoteError> for AddError {
+    ghost from_gives = { λ e r. r ≡ quote_mistake e };
+
     fn from(e: QuoteError) -> AddError {
         match e {
             QuoteError::BadEscape => AddError::Wrong(Mistake::BadEscape),
@@ -129,7 +132,9 @@ pub enum ReadError {
 }
 
 impl AddError {
-    pub(crate) fn at(self, line: u64) -> ReadError {
+    pub(crate) fn at(self, line: u64) -> ReadError
+        ensures { result ≡ at_line line self }
+    {
         match self {
             AddError::Wrong(mistake) => ReadError::At { line, mistake },
             AddError::NoMemory => ReadError::NoMemory,

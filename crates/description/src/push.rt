@@ -1,6 +1,7 @@
 // How a list grows.
-ghost use Rattle.std.specs.Prelude.{◌≡◌, ◌^◌, ◌<◌, ◌≤◌, IfOk, Some, vec_len, OnOk};
-ghost use Rattle.description.specs.Lists.{appended, pushed, once, split_last, grown, part_at};
+ghost use Rattle.std.specs.Prelude.{◌≡◌, ◌^◌, ◌<◌, ◌≤◌, vec_len};
+ghost use Rattle.description.specs.Lists.{appended, pushed, once, newest, grown, part_at};
+ghost use Rattle.description.specs.Drafts.{Adds, AddsAs};
 
 use crate::mistake::{AddError, Mistake};
 use base::image::TextPart;
@@ -12,22 +13,19 @@ const LIST_LIMIT: usize = u32::MAX as usize;
 
 // Appends what the bytes between two quotes stand for, and says where it stands.
 pub fn append(text: &mut Vec<u8>, raw: &[u8]) -> Result<TextPart, AddError>
-    ensures { IfOk result (λ p. appended raw.now text.old.items ≡ Some (text.new.items, p)) }
+    ensures { AddsAs (λ p. (text.new.items, p)) result (appended raw.now text.old.items) }
 {
-    let start = text_length(text)?;
+    let start = text.len();
     unquote(raw, text)?;
-    let length = text_length(text)? - start;
-    Ok(TextPart { start, length })
-}
-
-fn text_length(text: &Vec<u8>) -> Result<u32, Mistake>
-    ensures { IfOk result (λ n. n ≡ vec_len text.now) }
-{
-    u32::try_from(text.len()).or(Err(Mistake::TextTooLong))
+    let end = u32::try_from(text.len()).or(Err(Mistake::TextTooLong))?;
+    Ok(TextPart {
+        start: start as u32,
+        length: end - start as u32,
+    })
 }
 
 pub fn push_row<T: Drop>(rows: &mut Vec<T>, row: T) -> Result<(), AddError>
-    ensures added { OnOk result (pushed rows.old.items row ≡ Some rows.new.items) }
+    ensures added { Adds result (pushed rows.old.items row) rows.new.items }
     ensures few { vec_len rows.old < 2 ^ 32 → vec_len rows.new < 2 ^ 32 }
 {
     if rows.len() >= LIST_LIMIT {
@@ -36,16 +34,16 @@ pub fn push_row<T: Drop>(rows: &mut Vec<T>, row: T) -> Result<(), AddError>
     Ok(rows.push(row)?)
 }
 
-#[tactic(auto, using(crate::proofs::Growing::split_end))]
+#[tactic(auto, using(crate::proofs::Growing::newest_end))]
 pub fn take_last<T: Drop>(rows: &mut Vec<T>, none: Mistake) -> Result<T, AddError>
-    ensures last { IfOk result (λ x. split_last rows.old.items ≡ Some (rows.new.items, x)) }
+    ensures last { AddsAs (λ x. (rows.new.items, x)) result (newest none rows.old.items) }
     ensures len { vec_len rows.new ≤ vec_len rows.old }
 {
     rows.pop().ok_or(AddError::Wrong(none))
 }
 
 pub fn set_once<T: Drop>(slot: &mut Option<T>, value: T, twice: Mistake) -> Result<(), AddError>
-    ensures { OnOk result (once slot.old value ≡ Some slot.new) }
+    ensures { Adds result (once twice slot.old value) slot.new }
 {
     if slot.is_some() {
         return Err(AddError::Wrong(twice));
@@ -56,7 +54,7 @@ pub fn set_once<T: Drop>(slot: &mut Option<T>, value: T, twice: Mistake) -> Resu
 
 // A part of a table, with the row that comes next.
 pub fn one_more(part: RowRange) -> Result<RowRange, Mistake>
-    ensures { IfOk result (λ p. p ≡ grown part) }
+    ensures { result ≡ grown part }
 {
     let count = part.count.checked_add(1).ok_or(Mistake::TooManyRows)?;
     Ok(RowRange { count, ..part })

@@ -1,6 +1,8 @@
 // Reads a line as a row.
-ghost use Rattle.std.specs.Prelude.{IfSome, IfOk};
-ghost use Rattle.description.specs.Rows.{Fitting, FittingImage};
+ghost use Rattle.std.specs.Prelude.{◌≡◌};
+ghost use Rattle.description.specs.Fields.{given, token, left, gave};
+ghost use Rattle.provider.specs.declared.symbols.Symbol.TheVariants.{Other};
+ghost use Rattle.description.specs.Reading.{kind, section, public, contribution, table, module_state, indexed, procedure, thunk, separated, site, record_named, file, lines, line, inlined, range, part_named, image_row, row, line_row, read_as};
 
 use crate::fields::Fields;
 use crate::mistake::Mistake;
@@ -14,7 +16,7 @@ use words::scan::Word;
 
 // The row of a line; none where the line is blank.
 pub fn read_row<'a>(line: &'a [u8]) -> Result<Option<Line<'a>>, Mistake>
-    ensures { IfOk result (λ o. IfSome o (λ l. Fitting l.row)) }
+    ensures { read_as result ≡ line_row line.now }
 {
     let mut fields = Fields::new(line);
     let Some(first) = fields.next()? else {
@@ -31,7 +33,7 @@ pub fn read_row<'a>(line: &'a [u8]) -> Result<Option<Line<'a>>, Mistake>
 impl Fields<'_> {
     // The row that begins with a word.
     fn row(&mut self, first: Word<'_>) -> Result<Row, Mistake>
-        ensures { IfOk result Fitting }
+        ensures { gave result self.new ≡ row (token first.entry) (left self.old) }
     {
         let Word::Plain(word) = first else {
             return Err(Mistake::UnknownRow);
@@ -51,8 +53,9 @@ impl Fields<'_> {
         }
     }
 
+    #[tactic(auto, unfolding(crate::specs::Reading::image_row))]
     fn image_row_or_part(&mut self, word: &str) -> Result<Row, Mistake>
-        ensures { IfOk result Fitting }
+        ensures { gave result self.new ≡ image_row word.now (left self.old) }
     {
         match word {
             "section" => Ok(Row::Image(ImageRow::Section(self.section()?))),
@@ -65,7 +68,10 @@ impl Fields<'_> {
         }
     }
 
-    fn part(&mut self, word: &str) -> Result<ModulePart, Mistake> {
+    #[tactic(auto, unfolding(crate::specs::Reading::part_named))]
+    fn part(&mut self, word: &str) -> Result<ModulePart, Mistake>
+        ensures { gave result self.new ≡ part_named word.now (left self.old) }
+    {
         match word {
             "symbols" => Ok(ModulePart::SymbolsEnd(self.ending()?)),
             "extras" => Ok(ModulePart::Extras(self.extras()?)),
@@ -78,7 +84,10 @@ impl Fields<'_> {
         }
     }
 
-    fn record(&mut self, word: &str) -> Result<SymbolRecord, Mistake> {
+    #[tactic(auto, unfolding(crate::specs::Reading::record_named))]
+    fn record(&mut self, word: &str) -> Result<SymbolRecord, Mistake>
+        ensures { gave result self.new ≡ record_named word.now (left self.old) }
+    {
         match word {
             "procedure" => self.procedure(),
             "thunk" => self.thunk(),
@@ -89,7 +98,9 @@ impl Fields<'_> {
         }
     }
 
-    fn section(&mut self) -> Result<Section, Mistake> {
+    fn section(&mut self) -> Result<Section, Mistake>
+        ensures { gave result self.new ≡ section (left self.old) }
+    {
         Ok(Section {
             address: self.number()?,
             size: self.number()?,
@@ -97,7 +108,9 @@ impl Fields<'_> {
         })
     }
 
-    fn is_executable(&mut self) -> Result<bool, Mistake> {
+    fn is_executable(&mut self) -> Result<bool, Mistake>
+        ensures { gave result self.new ≡ kind (left self.old) }
+    {
         match self.keyword()? {
             "executable" => Ok(true),
             "data" => Ok(false),
@@ -105,14 +118,18 @@ impl Fields<'_> {
         }
     }
 
-    fn public(&mut self) -> Result<PublicSymbol, Mistake> {
+    fn public(&mut self) -> Result<PublicSymbol, Mistake>
+        ensures { gave result self.new ≡ public (left self.old) }
+    {
         Ok(PublicSymbol {
             offset: self.offset()?,
             name: self.name()?,
         })
     }
 
-    fn contribution(&mut self) -> Result<SectionContribution, Mistake> {
+    fn contribution(&mut self) -> Result<SectionContribution, Mistake>
+        ensures { gave result self.new ≡ contribution (left self.old) }
+    {
         Ok(SectionContribution {
             offset: self.offset()?,
             size: self.number()?,
@@ -121,7 +138,7 @@ impl Fields<'_> {
     }
 
     fn table(&mut self) -> Result<ImageRow, Mistake>
-        ensures { IfOk result FittingImage }
+        ensures { gave result self.new ≡ table (left self.old) }
     {
         match self.keyword()? {
             "starts" => Ok(ImageRow::StartTable(self.table_rows()?)),
@@ -132,7 +149,9 @@ impl Fields<'_> {
         }
     }
 
-    fn module_state(&mut self) -> Result<ModuleState, Mistake> {
+    fn module_state(&mut self) -> Result<ModuleState, Mistake>
+        ensures { gave result self.new ≡ module_state (left self.old) }
+    {
         match self.keyword()? {
             "present" => Ok(ModuleState::Present),
             "absent" => Ok(ModuleState::Absent),
@@ -141,21 +160,27 @@ impl Fields<'_> {
         }
     }
 
-    fn file(&mut self) -> Result<ModulePart, Mistake> {
+    fn file(&mut self) -> Result<ModulePart, Mistake>
+        ensures { gave result self.new ≡ file (left self.old) }
+    {
         Ok(ModulePart::File(FileRow {
             number: self.number()?,
             name: self.name()?,
         }))
     }
 
-    fn lines(&mut self) -> Result<ModulePart, Mistake> {
+    fn lines(&mut self) -> Result<ModulePart, Mistake>
+        ensures { gave result self.new ≡ lines (left self.old) }
+    {
         Ok(ModulePart::Lines {
             start: self.offset()?,
             ending: self.list_ending()?,
         })
     }
 
-    fn line(&mut self) -> Result<ModulePart, Mistake> {
+    fn line(&mut self) -> Result<ModulePart, Mistake>
+        ensures { gave result self.new ≡ line (left self.old) }
+    {
         Ok(ModulePart::Line(LineRow {
             offset: self.number()?,
             file: self.number()?,
@@ -163,7 +188,9 @@ impl Fields<'_> {
         }))
     }
 
-    fn inlined(&mut self) -> Result<ModulePart, Mistake> {
+    fn inlined(&mut self) -> Result<ModulePart, Mistake>
+        ensures { gave result self.new ≡ inlined (left self.old) }
+    {
         Ok(ModulePart::Inlined {
             site: self.number()?,
             start: self.offset()?,
@@ -171,7 +198,9 @@ impl Fields<'_> {
         })
     }
 
-    fn range(&mut self) -> Result<ModulePart, Mistake> {
+    fn range(&mut self) -> Result<ModulePart, Mistake>
+        ensures { gave result self.new ≡ range (left self.old) }
+    {
         Ok(ModulePart::Range(SiteRow {
             offset: self.number()?,
             length: self.length()?,
@@ -180,7 +209,9 @@ impl Fields<'_> {
         }))
     }
 
-    fn procedure(&mut self) -> Result<SymbolRecord, Mistake> {
+    fn procedure(&mut self) -> Result<SymbolRecord, Mistake>
+        ensures { gave result self.new ≡ indexed procedure (left self.old) }
+    {
         Ok(SymbolRecord {
             index: self.number()?,
             symbol: Symbol::Procedure {
@@ -193,7 +224,9 @@ impl Fields<'_> {
         })
     }
 
-    fn thunk(&mut self) -> Result<SymbolRecord, Mistake> {
+    fn thunk(&mut self) -> Result<SymbolRecord, Mistake>
+        ensures { gave result self.new ≡ indexed thunk (left self.old) }
+    {
         Ok(SymbolRecord {
             index: self.number()?,
             symbol: Symbol::Thunk {
@@ -205,7 +238,9 @@ impl Fields<'_> {
         })
     }
 
-    fn separated(&mut self) -> Result<SymbolRecord, Mistake> {
+    fn separated(&mut self) -> Result<SymbolRecord, Mistake>
+        ensures { gave result self.new ≡ indexed separated (left self.old) }
+    {
         Ok(SymbolRecord {
             index: self.number()?,
             symbol: Symbol::SeparatedCode {
@@ -217,7 +252,9 @@ impl Fields<'_> {
         })
     }
 
-    fn site(&mut self) -> Result<SymbolRecord, Mistake> {
+    fn site(&mut self) -> Result<SymbolRecord, Mistake>
+        ensures { gave result self.new ≡ indexed site (left self.old) }
+    {
         Ok(SymbolRecord {
             index: self.number()?,
             symbol: Symbol::InlineSite {
@@ -227,7 +264,9 @@ impl Fields<'_> {
         })
     }
 
-    fn other(&mut self) -> Result<SymbolRecord, Mistake> {
+    fn other(&mut self) -> Result<SymbolRecord, Mistake>
+        ensures { gave result self.new ≡ indexed (given Other) (left self.old) }
+    {
         Ok(SymbolRecord {
             index: self.number()?,
             symbol: Symbol::Other,

@@ -1,8 +1,6 @@
 // What a plain word says. A word with a colon is an offset, and any other with a plus a part of the text.
-ghost use Rattle.std.specs.Prelude.{◌≡◌, ◌^◌, ◌-◌, ◌≤◌, IfOk};
-ghost use Rattle.std.specs.Result.{result_ok};
-ghost use Rattle.words.specs.Numbers.{number_of};
-ghost use Rattle.description.specs.Rows.{bounded};
+ghost use Rattle.std.specs.Prelude.{◌≡◌};
+ghost use Rattle.description.specs.Words.{keyword_of, number_in, small, table_rows, length_in, section_offset, text_part};
 
 use crate::mistake::Mistake;
 use base::image::{SectionOffset, TextPart};
@@ -14,12 +12,19 @@ use words::scan::cut;
 const TABLE_LIMIT: u32 = 16_777_216;
 
 // A word as a text, since a pattern that is a text makes one test, and one of bytes a test for each byte. What is no text is no keyword.
-pub fn keyword(word: &[u8]) -> &str {
-    str::from_utf8(word).unwrap_or("")
+#[tactic(auto, using(crate::proofs::Keywords::texts), unfolding(crate::specs::Words::keyword_of))]
+pub fn keyword(word: &[u8]) -> &str
+    ensures { result.now ≡ keyword_of word.now }
+{
+    match str::from_utf8(word) {
+        Ok(text) => text,
+        Err(_) => "",
+    }
 }
 
+#[tactic(auto, unfolding(crate::specs::Words::number_in))]
 pub fn number_in(word: &[u8], too_large: Mistake) -> Result<u32, Mistake>
-    ensures { result_ok result ≡ result_ok (number_of word.now) }
+    ensures { result ≡ number_in word.now too_large }
 {
     match number(word) {
         Ok(number) => Ok(number),
@@ -29,14 +34,13 @@ pub fn number_in(word: &[u8], too_large: Mistake) -> Result<u32, Mistake>
 }
 
 pub fn small(word: &[u8], too_large: Mistake) -> Result<u16, Mistake>
-    ensures { result_ok result ≡ bounded word.now (2 ^ 16 - 1) }
+    ensures { result ≡ small word.now too_large }
 {
     u16::try_from(number_in(word, too_large)?).or(Err(too_large))
 }
 
 pub fn table_rows(word: &[u8]) -> Result<u32, Mistake>
-    ensures value { result_ok result ≡ bounded word.now (2 ^ 24) }
-    ensures bound { IfOk result (λ n. n ≤ 2 ^ 24) }
+    ensures { result ≡ table_rows word.now }
 {
     match number_in(word, Mistake::TableTooLarge)? {
         rows if rows <= TABLE_LIMIT => Ok(rows),
@@ -44,7 +48,19 @@ pub fn table_rows(word: &[u8]) -> Result<u32, Mistake>
     }
 }
 
-pub fn section_offset(word: &[u8]) -> Result<SectionOffset, Mistake> {
+// A number, or none.
+pub fn length_in(word: &[u8]) -> Result<Option<u32>, Mistake>
+    ensures { result ≡ length_in word.now }
+{
+    match keyword(word) {
+        "none" => Ok(None),
+        _ => Ok(Some(number_in(word, Mistake::NumberTooLarge)?)),
+    }
+}
+
+pub fn section_offset(word: &[u8]) -> Result<SectionOffset, Mistake>
+    ensures { result ≡ section_offset word.now }
+{
     let (section, offset) = cut(word, b':').ok_or(Mistake::NotAnOffset)?;
     Ok(SectionOffset {
         section: small(section, Mistake::SectionTooLarge)?,
@@ -52,7 +68,9 @@ pub fn section_offset(word: &[u8]) -> Result<SectionOffset, Mistake> {
     })
 }
 
-pub fn text_part(word: &[u8]) -> Result<TextPart, Mistake> {
+pub fn text_part(word: &[u8]) -> Result<TextPart, Mistake>
+    ensures { result ≡ text_part word.now }
+{
     match cut(word, b'+') {
         Some((start, length)) if !word.contains(&b':') => Ok(TextPart {
             start: number_in(start, Mistake::NumberTooLarge)?,

@@ -1,0 +1,38 @@
+-- Lines are cut off one after another. Assumes nothing.
+use Rattle.std.proofs.Common.{◌≡◌, ℕ, ◌+◌, List, [], ◌∷◌, Some, None, Ok, Err, Option, Result, refl, ap, sym, subst, ◌∙◌, arith}
+use Rattle.std.proofs.lemmas.Bool.Decides.{nat_tests}
+use Rattle.words.specs.Cuts.{cut_at}
+use Rattle.description.specs.declared.Description.{Description}
+use Rattle.description.specs.declared.mistake.ReadError.{ReadError}
+use Rattle.description.specs.declared.mistake.ReadError.TheVariants.{At, NoMemory}
+use Rattle.description.specs.Checks.{and_then}
+use Rattle.description.specs.Drafts.{Lists, line_said}
+use Rattle.description.specs.Described.{lines_of, lines_said, text_said, numbered, described, description_of, content, Reads}
+
+abbrev after_cut : List ℕ → Option (List ℕ × List ℕ) → List (List ℕ)
+after_cut cs None = cs ∷ []
+after_cut cs (Some p) = p.0 ∷ lines_of p.1
+
+-- a text is its first line, and the lines of what stands below
+first_line : (cs : List ℕ) → lines_of cs ≡ after_cut cs (cut_at 10 cs)
+first_line [] = refl
+first_line (c ∷ cs) = let ih = first_line cs in grind (arith, nat_tests)
+
+pub cut_line : (cs a b : List ℕ) → cut_at 10 cs ≡ Some (a, b) → lines_of cs ≡ a ∷ lines_of b
+cut_line cs a b e = first_line cs ∙ ap (after_cut cs) e
+
+pub last_line : (cs : List ℕ) → cut_at 10 cs ≡ None → lines_of cs ≡ cs ∷ []
+last_line cs e = first_line cs ∙ ap (after_cut cs) e
+
+-- the first line with a mistake ends the reading
+line_fails : (text rest line below : List ℕ) (n : ℕ) (a b : Lists) (e : ReadError) → text_said text ≡ lines_said n (lines_of rest) a → cut_at 10 rest ≡ Some (line, below) → Reads {X = Unit {0}} (λ _. b) (Err e) (numbered n (line_said line a)) → Reads content (Err e) (description_of text)
+line_fails text rest line below n a b (At m k) h c r =
+    let t = h ∙ (ap (λ z. lines_said n z a) (cut_line rest line below c) ∙ ap (λ z. and_then z (lines_said (n + 1) (lines_of below))) r)
+    in ap (λ z. and_then z (λ d. Ok (described d))) t
+line_fails text rest line below n a b NoMemory h c r = tt
+
+pub ends : (text rest line below : List ℕ) (n : ℕ) (a b : Lists) (e : ReadError) (q : Result (Unit {0}) ReadError) (r : Result Description ReadError) → r ≡ Err e → q ≡ Err e → text_said text ≡ lines_said n (lines_of rest) a → cut_at 10 rest ≡ Some (line, below) → Reads (λ _. b) q (numbered n (line_said line a)) → Reads content r (description_of text)
+ends text rest line below n a b e q r f g h c k =
+    subst (λ z. Reads content z (description_of text)) (sym f) (line_fails text rest line below n a b e h c (subst (λ z. Reads (λ _. b) z (numbered n (line_said line a))) g k))
+
+pub ruleset lines = (cut_line, last_line)
