@@ -1,5 +1,5 @@
 -- What the bytes between two quotes stand for. Assumes nothing.
-use Rattle.std.specs.Prelude.{◌≡◌, ℕ, ◌+◌, ◌*◌, ◌<◌, cond, List, [], ◌∷◌, ◌++◌, Some, None, Ok, Err, Option, Result, ◌==◌}
+use Rattle.std.specs.Prelude.{◌≡◌, ℕ, ◌+◌, ◌*◌, ◌<◌, cond, List, [], ◌∷◌, ◌++◌, length, take, Some, None, Ok, Err, Option, Result, ◌==◌}
 use Rattle.std.specs.Option.{option_map, option_and_then, option_to_list}
 use Rattle.std.specs.Char.{is_digit, digit_value}
 use Rattle.words.specs.declared.quote.Place.{Place}
@@ -40,8 +40,14 @@ abbrev pub Sound : Place → Type 0
 Sound (Low h) = h < 16
 Sound p = Unit {0}
 
--- what is appended to `old`
+-- what is appended to `old`: all that the bytes stand for, or nothing
 abbrev pub Unquotes : List ℕ → List ℕ → List ℕ → Result Unit QuoteError → Type 0
 Unquotes raw old new (Ok _) = (bs : List ℕ) × (unquoted raw ≡ Some bs) × (new ≡ old ++ bs)
-Unquotes raw old new (Err BadEscape) = unquoted raw ≡ None
-Unquotes raw old new (Err NoMemory) = Unit {0}
+Unquotes raw old new (Err BadEscape) = (unquoted raw ≡ None) × (new ≡ old)
+Unquotes raw old new (Err NoMemory) = new ≡ old
+
+-- the same, but for what has been appended where it fails
+abbrev pub Appends : List ℕ → List ℕ → List ℕ → Result Unit QuoteError → Type 0
+Appends raw old new (Ok _) = (bs : List ℕ) × (unquoted raw ≡ Some bs) × (new ≡ old ++ bs)
+Appends raw old new (Err BadEscape) = (unquoted raw ≡ None) × (take (length old) new ≡ old)
+Appends raw old new (Err NoMemory) = take (length old) new ≡ old

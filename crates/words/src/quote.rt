@@ -1,7 +1,7 @@
 // What the bytes between two quotes stand for.
 ghost use Rattle.std.specs.Prelude.{◌≡◌};
 ghost use Rattle.words.specs.declared.quote.QuoteError.TheVariants.{NoMemory};
-ghost use Rattle.words.specs.Quotes.{hex_digit, named, stepped, Sound, Unquotes};
+ghost use Rattle.words.specs.Quotes.{hex_digit, named, stepped, Sound, Appends, Unquotes};
 
 use std::alloc::AllocFailed;
 
@@ -31,9 +31,21 @@ impl<T: Drop> From<AllocFailed<T>> for QuoteError {
     }
 }
 
-// Appends to `out` what the bytes between two quotes stand for.
+// Appends to `out` what the bytes between two quotes stand for, all of it or nothing.
 pub fn unquote(raw: &[u8], out: &mut Vec<u8>) -> Result<(), QuoteError>
     ensures { Unquotes raw.now out.old.items out.new.items result }
+{
+    let start = out.len();
+    let result = append(raw, out);
+    if result.is_err() {
+        out.truncate(start);
+    }
+    result
+}
+
+// Where it fails, it has appended what stands before.
+fn append(raw: &[u8], out: &mut Vec<u8>) -> Result<(), QuoteError>
+    ensures { Appends raw.now out.old.items out.new.items result }
 {
     let mut place = Place::Plain;
     for b in raw {

@@ -1,11 +1,12 @@
-use Rattle.std.proofs.Common.{◌≡◌, ◌++◌, drop, vec_items}
+use Rattle.std.proofs.Common.{◌≡◌, ◌++◌, drop, take, length, vec_items}
 use Rattle.std.specs.Option.{option_map}
 use Rattle.words.specs.Quotes.{from_place, unquoted, Sound}
-use Rattle.words.proofs.quote.unquote.Given as goal
+use Rattle.words.proofs.quote.append.Given as goal
 
 -- what is appended so far, before what the rest stands for
 abbrev pub invariant-loop-b : goal.invariant-loop-b
 invariant-loop-b l = record {
   sound : Sound l.place;
   whole : option_map (λ bs. vec_items l.out ++ bs) (from_place l.place (drop l.b-index l.raw)) ≡ option_map (λ bs. vec_items l.initial.out ++ bs) (unquoted l.raw);
+  kept : take (length (vec_items l.initial.out)) (vec_items l.out) ≡ vec_items l.initial.out;
 }
