@@ -22,7 +22,7 @@ use Rattle.description.specs.declared.row.Row.TheVariants.{Text, Image, Module, 
 use Rattle.description.specs.Described.{description_of}
 use Rattle.description.specs.Drafts.{parts_nothing, line_said}
 use Rattle.description.specs.Fields.{no_place}
-use Rattle.description.specs.Reading.{line_row, image_row, part_named, record_named}
+use Rattle.description.specs.Reading.{line_row, image_row_of, part_of, record_of}
 use Rattle.description.specs.Words.{keyword_of, number_in}
 
 abbrev at : ℕ → ℕ → SectionOffset
@@ -60,7 +60,7 @@ image_rows : Quotes "text \"a name\"" Text "a name"
     × Is "table contributions 6" (Image (ContributionTable 6))
     × Is "table frames 7" (Image (FrameTable 7))
     × Is "table addresses 8" (Image (AddressTable 8))
-unfolding keyword_of is_utf8 chars encode image_row number_in
+unfolding keyword_of is_utf8 chars encode image_row_of number_in
 image_rows = (refl, refl, refl, refl, refl, refl, refl, refl, refl, refl, refl, refl)
 
 module_rows : Is "module present" (Module Present)
@@ -79,7 +79,7 @@ module_rows : Is "module present" (Module Present)
     × Is "inlined 1 2:3 fault 4" (Part (Inlined 1 (at 2 3) (Err (record { 0 = 4 }))))
     × Is "range 1 2 3 4" (Part (Range (record { offset = 1; length = Some 2; file = 3; line = 4 })))
     × Is "range 1 none 3 4" (Part (Range (record { offset = 1; length = None; file = 3; line = 4 })))
-unfolding keyword_of is_utf8 chars encode image_row part_named record_named number_in
+unfolding keyword_of is_utf8 chars encode image_row_of part_of record_of number_in
 module_rows = (refl, refl, refl, refl, refl, refl, refl, refl, refl, refl, refl, refl, refl, refl, refl, refl)
 
 questions : Is "hide 3" (Hide 3)
@@ -100,7 +100,7 @@ mistakes : Fails "sections 1 2 data" UnknownRow
     × Fails "section \"1\" 2 data" QuotedWord
     × Fails "public 1:2 \"main" QuoteLeftOpen
     × Fails "public 1:2 main" NotAName
-unfolding keyword_of is_utf8 chars encode image_row part_named record_named number_in
+unfolding keyword_of is_utf8 chars encode image_row_of part_of record_of number_in
 mistakes = (refl, refl, refl, refl, refl, refl, refl, refl, refl)
 
 abbrev text_of : List String → List ℕ
@@ -124,9 +124,9 @@ small : description_of (text_of ("# two sections, one function in each" ∷ "sec
       hidden = [];
       questions = [];
     })
-unfolding keyword_of is_utf8 chars encode image_row number_in line_said
+unfolding keyword_of is_utf8 chars encode image_row_of number_in line_said
 small = refl
 
 wrong_line : description_of (text_of ("# nothing" ∷ "" ∷ "section 1 2 code" ∷ "list" ∷ [])) ≡ Err (At 3 NotAKind)
-unfolding keyword_of is_utf8 chars encode image_row number_in line_said
+unfolding keyword_of is_utf8 chars encode image_row_of number_in line_said
 wrong_line = refl

@@ -12,7 +12,7 @@ use Rattle.description.specs.Checks.{Checked}
 use Rattle.description.specs.Drafts.{ImageLists, Lists, image_added, row_added, row_said, written_said, line_said}
 use Rattle.description.specs.Fields.{Rest, whole, Field, given, and, into, Token, plain_word, quoted_word, next, plain, keyword, end, checked, number, small_number, size, text, ending}
 use Rattle.description.specs.Lists.{appended, once}
-use Rattle.description.specs.Reading.{section, public, contribution, table_of, table, module_state, part_named, image_row, same, row_named, row, Written, whole_row, line_row}
+use Rattle.description.specs.Reading.{section, public, contribution, table_of, table, module_state, part_of, image_row_of, same, row_of, row, Written, whole_row, line_row}
 use Rattle.description.specs.Rows.{image_named, named}
 use Rattle.description.specs.Sound.{Room, Roomy}
 use Rattle.description.specs.Words.{is, keyword_of, number_in, table_rows}
@@ -70,12 +70,12 @@ yields_table =
     fits : (make : ℕ → ImageRow) → ((n : ℕ) → n ≤ 2 ^ 24 → FittingImage (make n)) → Yields FittingImage (into size make)
     fits make h = yields_into (λ n. n ≤ 2 ^ 24) FittingImage size make yields_size h
 
-yields_image : (w : List ℕ) → Yields Fitting (image_row w)
-unfolding image_row
+yields_image : (w : List ℕ) → Yields Fitting (image_row_of w)
+unfolding image_row_of
 yields_image w =
-    yields_if _ (is "section" w) _ _ (yields_any _ section _ (λ x. tt)) (yields_if _ (is "public" w) _ _ (yields_any _ public _ (λ x. tt)) (yields_if _ (is "contribution" w) _ _ (yields_any _ contribution _ (λ x. tt)) (yields_if _ (is "publics" w) _ _ (yields_any _ ending _ (λ x. tt)) (yields_if _ (is "contributions" w) _ _ (yields_any _ ending _ (λ x. tt)) (yields_if _ (is "table" w) _ _ (yields_into FittingImage Fitting table Image yields_table (λ x h. h)) (yields_any _ (part_named w) Part (λ x. tt)))))))
+    yields_if _ (is "section" w) _ _ (yields_any _ section _ (λ x. tt)) (yields_if _ (is "public" w) _ _ (yields_any _ public _ (λ x. tt)) (yields_if _ (is "contribution" w) _ _ (yields_any _ contribution _ (λ x. tt)) (yields_if _ (is "publics" w) _ _ (yields_any _ ending _ (λ x. tt)) (yields_if _ (is "contributions" w) _ _ (yields_any _ ending _ (λ x. tt)) (yields_if _ (is "table" w) _ _ (yields_into FittingImage Fitting table Image yields_table (λ x h. h)) (yields_any _ (part_of w) Part (λ x. tt)))))))
 
-yields_named : (w : List ℕ) → Yields Fitting (row_named w)
+yields_named : (w : List ℕ) → Yields Fitting (row_of w)
 yields_named w =
     yields_if _ (is "text" w) _ _ (yields_any _ text _ (λ x. tt)) (yields_if _ (is "module" w) _ _ (yields_any _ module_state _ (λ x. tt)) (yields_if _ (is "hide" w) _ _ (yields_any _ (small_number ModuleTooLarge) _ (λ x. tt)) (yields_if _ (is "find" w) _ _ (yields_any _ number _ (λ x. tt)) (yields_if _ (is "frames" w) _ _ (yields_any _ number _ (λ x. tt)) (yields_if _ (is "list" w) _ _ (yields_given _ _ tt) (yields_if _ (is "same" w) _ _ (yields_any _ same _ (λ x. tt)) (yields_image w)))))))
 

@@ -1,5 +1,5 @@
 -- What a row adds to a description. Assumes nothing.
-use Rattle.std.specs.Prelude.{if◌then◌else◌, ◌≡◌, ℕ, true, false, List, [], Some, None, Ok, Err, vec_items, Option, Result}
+use Rattle.std.specs.Prelude.{if◌then◌else◌, ℕ, true, false, List, [], Some, None, Ok, Err, vec_items, Option}
 use Rattle.base.specs.Lists.{Ending, clean}
 use Rattle.base.specs.declared.image.PublicSymbol.{PublicSymbol}
 use Rattle.base.specs.declared.image.Section.{Section}
@@ -17,8 +17,6 @@ use Rattle.provider.specs.declared.symbols.SymbolRecord.{SymbolRecord}
 use Rattle.description.specs.declared.draft.Draft.{Draft}
 use Rattle.description.specs.declared.draft.ImageDraft.{ImageDraft}
 use Rattle.description.specs.declared.draft.ModuleDraft.{ModuleDraft}
-use Rattle.description.specs.declared.mistake.AddError.{AddError}
-use Rattle.description.specs.declared.mistake.AddError.TheVariants.{Wrong, NoMemory}
 use Rattle.description.specs.declared.mistake.Mistake.{Mistake}
 use Rattle.description.specs.declared.mistake.Mistake.TheVariants.{NoModule, NoLines, NoSite, SymbolsEndTwice, ExtrasTwice, PublicsEndTwice, ContributionsEndTwice, TableTwice}
 use Rattle.description.specs.declared.question.Question.{Question}
@@ -210,12 +208,3 @@ written_said (Some w) a = row_said w.row w.quoted a
 -- what a line adds to what is said so far
 unfoldable pub line_said : List ℕ → Lists → Checked Lists
 line_said line a = and_then (line_row line) (λ o. written_said o a)
-
--- what the code has added: what is to be added, or why it is not, unless memory runs out
-abbrev pub AddsAs : {X Y : Type 0} → (X → Y) → Result X AddError → Checked Y → Type 0
-AddsAs view (Ok x) wanted = wanted ≡ Ok (view x)
-AddsAs view (Err (Wrong m)) wanted = wanted ≡ Err m
-AddsAs view (Err NoMemory) wanted = Unit {0}
-
-abbrev pub Adds : {Y : Type 0} → Result (Unit {0}) AddError → Checked Y → Y → Type 0
-Adds r wanted now = AddsAs (λ _. now) r wanted

@@ -1,10 +1,11 @@
 -- How mistakes are handed on. Assumes nothing.
-use Rattle.std.specs.Prelude.{ℕ}
+use Rattle.std.specs.Prelude.{◌≡◌, ℕ, Ok, Err, Result}
 use Rattle.words.specs.declared.quote.QuoteError.{QuoteError}
 use Rattle.words.specs.declared.quote.QuoteError.TheVariants.{BadEscape, NoMemory as NoRoom}
 use Rattle.description.specs.declared.mistake.AddError.{AddError}
 use Rattle.description.specs.declared.mistake.AddError.TheVariants.{Wrong, NoMemory}
 use Rattle.description.specs.declared.mistake.Mistake.TheVariants.{BadEscape as Escape}
+use Rattle.description.specs.Checks.{Checked}
 use Rattle.description.specs.declared.mistake.ReadError.{ReadError}
 use Rattle.description.specs.declared.mistake.ReadError.TheVariants.{At, NoMemory as OutOfMemory}
 
@@ -15,3 +16,12 @@ quote_mistake NoRoom = NoMemory
 abbrev pub at_line : ℕ → AddError → ReadError
 at_line n (Wrong m) = At n m
 at_line n NoMemory = OutOfMemory
+
+-- what the code has added: what is to be added, or why it is not, unless memory runs out
+abbrev pub AddsAs : {X Y : Type 0} → (X → Y) → Result X AddError → Checked Y → Type 0
+AddsAs view (Ok x) wanted = wanted ≡ Ok (view x)
+AddsAs view (Err (Wrong m)) wanted = wanted ≡ Err m
+AddsAs view (Err NoMemory) wanted = Unit {0}
+
+abbrev pub Adds : {Y : Type 0} → Result (Unit {0}) AddError → Checked Y → Y → Type 0
+Adds r wanted now = AddsAs (λ _. now) r wanted

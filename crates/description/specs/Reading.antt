@@ -76,8 +76,8 @@ separated = and offset (λ o. and number (λ n. and number (λ e. and offset (λ
 abbrev pub site : Field Symbol
 site = and number (λ i. and number (λ e. given (InlineSite i e)))
 
-unfoldable pub record_named : List ℕ → Field SymbolRecord
-record_named w =
+unfoldable pub record_of : List ℕ → Field SymbolRecord
+record_of w =
     if is "procedure" w then indexed procedure
     else if is "thunk" w then indexed thunk
     else if is "separated" w then indexed separated
@@ -101,8 +101,8 @@ abbrev pub range : Field ModulePart
 range =
     and number (λ o. and length (λ n. and number (λ f. and number (λ l. given (Range (record { offset = o; length = n; file = f; line = l }))))))
 
-unfoldable pub part_named : List ℕ → Field ModulePart
-part_named w =
+unfoldable pub part_of : List ℕ → Field ModulePart
+part_of w =
     if is "symbols" w then into ending SymbolsEnd
     else if is "extras" w then into extras Extras
     else if is "file" w then file
@@ -110,24 +110,24 @@ part_named w =
     else if is "line" w then line
     else if is "inlined" w then inlined
     else if is "range" w then range
-    else into (record_named w) SymbolPart
+    else into (record_of w) SymbolPart
 
-unfoldable pub image_row : List ℕ → Field Row
-image_row w =
+unfoldable pub image_row_of : List ℕ → Field Row
+image_row_of w =
     if is "section" w then into section (λ s. Image (SectionRow s))
     else if is "public" w then into public (λ p. Image (Public p))
     else if is "contribution" w then into contribution (λ c. Image (Contribution c))
     else if is "publics" w then into ending (λ e. Image (PublicsEnd e))
     else if is "contributions" w then into ending (λ e. Image (ContributionsEnd e))
     else if is "table" w then into table Image
-    else into (part_named w) Part
+    else into (part_of w) Part
 
 abbrev pub same : Field Question
 same = and number (λ a. and number (λ b. given (Same a b)))
 
 -- the row that begins with a word
-abbrev pub row_named : List ℕ → Field Row
-row_named w =
+abbrev pub row_of : List ℕ → Field Row
+row_of w =
     if is "text" w then into text (λ _. Text)
     else if is "module" w then into module_state Module
     else if is "hide" w then into (small_number ModuleTooLarge) Hide
@@ -135,10 +135,10 @@ row_named w =
     else if is "frames" w then into number (λ a. Ask (Frames a))
     else if is "list" w then given (Ask Listed)
     else if is "same" w then into same Ask
-    else image_row w
+    else image_row_of w
 
 abbrev pub row : Token → Field Row
-row (plain_word w) = row_named (keyword_of w)
+row (plain_word w) = row_of (keyword_of w)
 row (quoted_word w) = wrong UnknownRow
 
 -- a row, and the bytes that stand on its line in quotes

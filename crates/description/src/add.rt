@@ -1,8 +1,9 @@
 // What a row adds.
 ghost use Rattle.std.specs.Prelude.{◌≡◌, Some};
 ghost use Rattle.description.specs.Checks.{Checked};
+ghost use Rattle.description.specs.Mistakes.{Adds};
 ghost use Rattle.description.specs.Reading.{written};
-ghost use Rattle.description.specs.Drafts.{image_lists, image_added, part_lists, part_pushed, told_with, module_with, new_module, module_lists, module_opened, module_grown, lists, row_added, written_said, Adds, list_grown, longer_lines, longer_site, parted};
+ghost use Rattle.description.specs.Drafts.{image_lists, image_added, part_lists, part_pushed, told_with, module_with, new_module, module_lists, module_opened, module_grown, lists, row_added, written_said, list_grown, longer_lines, longer_site, parted};
 
 use crate::draft::{Draft, ImageDraft, ModuleDraft};
 use crate::mistake::{AddError, Mistake};

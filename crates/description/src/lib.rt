@@ -3,7 +3,8 @@
 
 ghost use Rattle.std.specs.Prelude.{◌≡◌};
 ghost use Rattle.std.specs.Option.{unwrap_or};
-ghost use Rattle.description.specs.Drafts.{nothing, image_lists, lists, line_said, Adds};
+ghost use Rattle.description.specs.Drafts.{nothing, image_lists, lists, line_said};
+ghost use Rattle.description.specs.Mistakes.{Adds};
 ghost use Rattle.description.specs.Described.{content, numbered, described, description_of, starts_at_most, addresses_at_most, Reads};
 
 mod add;

@@ -1,7 +1,7 @@
 // How a list grows.
 ghost use Rattle.std.specs.Prelude.{◌≡◌, ◌^◌, ◌<◌, ◌≤◌, vec_len};
 ghost use Rattle.description.specs.Lists.{appended, pushed, once, newest, grown, part_at};
-ghost use Rattle.description.specs.Drafts.{Adds, AddsAs};
+ghost use Rattle.description.specs.Mistakes.{Adds, AddsAs};
 
 use crate::mistake::{AddError, Mistake};
 use base::image::TextPart;

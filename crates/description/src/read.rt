@@ -2,7 +2,7 @@
 ghost use Rattle.std.specs.Prelude.{◌≡◌};
 ghost use Rattle.description.specs.Fields.{given, token, left, gave};
 ghost use Rattle.provider.specs.declared.symbols.Symbol.TheVariants.{Other};
-ghost use Rattle.description.specs.Reading.{kind, section, public, contribution, table, module_state, indexed, procedure, thunk, separated, site, record_named, file, lines, line, inlined, range, part_named, image_row, row, line_row, read_as};
+ghost use Rattle.description.specs.Reading.{kind, section, public, contribution, table, module_state, indexed, procedure, thunk, separated, site, record_of, file, lines, line, inlined, range, part_of, image_row_of, row, line_row, read_as};
 
 use crate::fields::Fields;
 use crate::mistake::Mistake;
@@ -53,9 +53,9 @@ impl Fields<'_> {
         }
     }
 
-    #[tactic(auto, unfolding(crate::specs::Reading::image_row))]
+    #[tactic(auto, unfolding(crate::specs::Reading::image_row_of))]
     fn image_row_or_part(&mut self, word: &str) -> Result<Row, Mistake>
-        ensures { gave result self.new ≡ image_row word.now (left self.old) }
+        ensures { gave result self.new ≡ image_row_of word.now (left self.old) }
     {
         match word {
             "section" => Ok(Row::Image(ImageRow::Section(self.section()?))),
@@ -68,9 +68,9 @@ impl Fields<'_> {
         }
     }
 
-    #[tactic(auto, unfolding(crate::specs::Reading::part_named))]
+    #[tactic(auto, unfolding(crate::specs::Reading::part_of))]
     fn part(&mut self, word: &str) -> Result<ModulePart, Mistake>
-        ensures { gave result self.new ≡ part_named word.now (left self.old) }
+        ensures { gave result self.new ≡ part_of word.now (left self.old) }
     {
         match word {
             "symbols" => Ok(ModulePart::SymbolsEnd(self.ending()?)),
@@ -84,9 +84,9 @@ impl Fields<'_> {
         }
     }
 
-    #[tactic(auto, unfolding(crate::specs::Reading::record_named))]
+    #[tactic(auto, unfolding(crate::specs::Reading::record_of))]
     fn record(&mut self, word: &str) -> Result<SymbolRecord, Mistake>
-        ensures { gave result self.new ≡ record_named word.now (left self.old) }
+        ensures { gave result self.new ≡ record_of word.now (left self.old) }
     {
         match word {
             "procedure" => self.procedure(),
