@@ -6,4 +6,5 @@ pub mod Shortness
 pub mod Sizes
 pub mod Naming
 pub mod Soundness
+pub mod Spelling
 pub mod Examples

@@ -2,6 +2,7 @@ pub mod Checks
 pub mod Words
 pub mod Fields
 pub mod Reading
+pub mod Spelling
 pub mod Rows
 pub mod Mistakes
 pub mod Lists

@@ -1,7 +1,7 @@
 -- What holds of all that a text says. Assumes nothing.
 use Rattle.std.specs.Prelude.{◌≡◌, ℕ, ◌^◌, ◌<◌, ◌≤◌, List, length, IfSome, Some, Ok, Option}
 use Rattle.std.specs.List.{AllByRecursion}
-use Rattle.description.specs.Described.{lines_of}
+use Rattle.description.specs.Described.{lines_of, text_said}
 use Rattle.description.specs.Drafts.{ImageLists, PartLists, Lists}
 use Rattle.description.specs.Names.{Quoting, Named}
 use Rattle.description.specs.Reading.{Written, line_row}
@@ -47,3 +47,6 @@ pub record Sound (text : List ℕ) (a : Lists) : Type 0 where
   pub room : Roomy a.image
   -- names that stand in quotes lie within the text
   pub names : AllByRecursion QuotingLine (lines_of text) → Named a
+
+abbrev pub AlwaysSound : Type 0
+AlwaysSound = (text : List ℕ) (a : Lists) → text_said text ≡ Ok a → Sound text a

@@ -6,6 +6,8 @@ ghost use Rattle.std.specs.Option.{unwrap_or};
 ghost use Rattle.description.specs.Drafts.{nothing, image_lists, lists, line_said};
 ghost use Rattle.description.specs.Mistakes.{Adds};
 ghost use Rattle.description.specs.Described.{content, numbered, described, description_of, starts_at_most, addresses_at_most, Reads};
+ghost use Rattle.description.specs.Sound.{AlwaysSound};
+ghost use Rattle.description.specs.Spelling.{WordsDecide};
 
 mod add;
 mod draft;
@@ -49,7 +51,9 @@ pub struct Description {
 
 #[tactic(auto, using(crate::proofs::Cutting::lines))]
 pub fn read_description(heap: Global, input: &[u8]) -> Result<Description, ReadError>
-    ensures { Reads content result (description_of input.now) }
+    ensures described { Reads content result (description_of input.now) }
+    ensures sound { AlwaysSound }
+    ensures words { WordsDecide }
 {
     let mut draft = new_draft(heap);
     let mut number = 1;

@@ -1,9 +1,29 @@
 use Rattle.std.proofs.Common.{rules}
 use Rattle.description.specs.Drafts.{lists}
 use Rattle.description.proofs.Cutting.{ends}
+use Rattle.description.proofs.Soundness.{sound}
+use Rattle.description.proofs.Spelling.{words_decide}
 use Rattle.description.proofs.read_description.Goals as goal
 
 -- the first line with a mistake ends the reading
-pub returns-in_err-read_line : goal.returns-in_err-read_line
-returns-in_err-read_line c =
+pub returns-in_err-read_line-clause-described : goal.returns-in_err-read_line-clause-described
+returns-in_err-read_line-clause-described c =
     ends c.args.input.now c.loop-line.rest.now c.in-Some.line.now c.in-Some.below.now c.loop-line.number (lists c.loop-line.draft) (lists c.read_line.new.draft) c.in_err-read_line.field-0.0 c.read_line.result c.from_residual.result (search rules) (search rules) (search rules) (search rules) (search rules)
+
+pub returns-in_err-read_line-clause-sound : goal.returns-in_err-read_line-clause-sound
+returns-in_err-read_line-clause-sound c = sound
+
+pub returns-in_err-read_line-clause-words : goal.returns-in_err-read_line-clause-words
+returns-in_err-read_line-clause-words c = words_decide
+
+pub returns-in_err-read_line-2-clause-sound : goal.returns-in_err-read_line-2-clause-sound
+returns-in_err-read_line-2-clause-sound c = sound
+
+pub returns-in_err-read_line-2-clause-words : goal.returns-in_err-read_line-2-clause-words
+returns-in_err-read_line-2-clause-words c = words_decide
+
+pub returns-clause-sound : goal.returns-clause-sound
+returns-clause-sound c = sound
+
+pub returns-clause-words : goal.returns-clause-words
+returns-clause-words c = words_decide
