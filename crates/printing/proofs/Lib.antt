@@ -1,1 +1,2 @@
 mod Escaping
+mod Room

@@ -36,6 +36,14 @@ from_place p (c ∷ cs) = option_and_then (λ s. option_map (put s.1) (from_plac
 abbrev pub unquoted : List ℕ → Option (List ℕ)
 unquoted bs = from_place Plain bs
 
+-- how many bytes are complete at the end, or where bytes stand for nothing
+abbrev pub complete_from : Place → List ℕ → ℕ
+complete_from p [] = 0
+complete_from p (c ∷ cs) = elim (stepped p c) [ None ↦ 0 | Some s ↦ length (option_to_list s.1) + complete_from s.0 cs ]
+
+abbrev pub complete : List ℕ → ℕ
+complete bs = complete_from Plain bs
+
 abbrev pub Sound : Place → Type 0
 Sound (Low h) = h < 16
 Sound p = Unit {0}
@@ -45,6 +53,11 @@ abbrev pub Unquotes : List ℕ → List ℕ → List ℕ → Result Unit QuoteEr
 Unquotes raw old new (Ok _) = (bs : List ℕ) × (unquoted raw ≡ Some bs) × (new ≡ old ++ bs)
 Unquotes raw old new (Err BadEscape) = (unquoted raw ≡ None) × (new ≡ old)
 Unquotes raw old new (Err NoMemory) = new ≡ old
+
+-- memory runs out only where there is no place for a byte that is complete
+abbrev pub Overflows : List ℕ → ℕ → ℕ → Result Unit QuoteError → Type 0
+Overflows raw len capacity (Err NoMemory) = capacity < len + complete raw
+Overflows raw len capacity r = Unit {0}
 
 -- the same, but for what has been appended where it fails
 abbrev pub Appends : List ℕ → List ℕ → List ℕ → Result Unit QuoteError → Type 0

@@ -1,7 +1,7 @@
 // What the bytes between two quotes stand for.
-ghost use Rattle.std.specs.Prelude.{◌≡◌};
+ghost use Rattle.std.specs.Prelude.{◌≡◌, vec_len, vec_capacity};
 ghost use Rattle.words.specs.declared.quote.QuoteError.TheVariants.{NoMemory};
-ghost use Rattle.words.specs.Quotes.{hex_digit, named, stepped, Sound, Appends, Unquotes};
+ghost use Rattle.words.specs.Quotes.{hex_digit, named, stepped, Sound, Overflows, Appends, Unquotes};
 
 use std::alloc::AllocFailed;
 
@@ -33,7 +33,8 @@ impl<T: Drop> From<AllocFailed<T>> for QuoteError {
 
 // Appends to `out` what the bytes between two quotes stand for, all of it or nothing.
 pub fn unquote(raw: &[u8], out: &mut Vec<u8>) -> Result<(), QuoteError>
-    ensures { Unquotes raw.now out.old.items out.new.items result }
+    ensures outcome { Unquotes raw.now out.old.items out.new.items result }
+    ensures room { Overflows raw.now (vec_len out.old) (vec_capacity out.old) result }
 {
     let start = out.len();
     let result = append(raw, out);
@@ -45,7 +46,8 @@ pub fn unquote(raw: &[u8], out: &mut Vec<u8>) -> Result<(), QuoteError>
 
 // Where it fails, it has appended what stands before.
 fn append(raw: &[u8], out: &mut Vec<u8>) -> Result<(), QuoteError>
-    ensures { Appends raw.now out.old.items out.new.items result }
+    ensures outcome { Appends raw.now out.old.items out.new.items result }
+    ensures room { Overflows raw.now (vec_len out.old) (vec_capacity out.old) result }
 {
     let mut place = Place::Plain;
     for b in raw {
