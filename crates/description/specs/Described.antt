@@ -104,8 +104,8 @@ content d = record {
   questions = vec_items d.questions;
 }
 
--- what was to be read, or why it cannot be, unless memory runs out
-abbrev pub Reads : {X Y : Type 0} → (X → Y) → Result X ReadError → Result Y ReadError → Type 0
-Reads view (Ok x) wanted = wanted ≡ Ok (view x)
-Reads view (Err (At n m)) wanted = wanted ≡ Err (At n m)
-Reads view (Err NoMemory) wanted = Unit {0}
+-- what was to be read, or why it cannot be; or memory runs out, which it may do only where `Grows`
+abbrev pub Reads : {X Y : Type 0} → Type 0 → (X → Y) → Result X ReadError → Result Y ReadError → Type 0
+Reads Grows view (Ok x) wanted = wanted ≡ Ok (view x)
+Reads Grows view (Err (At n m)) wanted = wanted ≡ Err (At n m)
+Reads Grows view (Err NoMemory) wanted = Grows

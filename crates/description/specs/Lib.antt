@@ -9,4 +9,5 @@ pub mod Lists
 pub mod Drafts
 pub mod Names
 pub mod Described
+pub mod Memory
 pub mod Sound

@@ -1,7 +1,8 @@
 // What a row adds.
 ghost use Rattle.std.specs.Prelude.{◌≡◌, Some};
 ghost use Rattle.description.specs.Checks.{Checked};
-ghost use Rattle.description.specs.Mistakes.{Adds};
+ghost use Rattle.description.specs.Mistakes.{Adds, AddsAs};
+ghost use Rattle.description.specs.Memory.{ImageLengthens, PartLengthens, Lengthens, Grows};
 ghost use Rattle.description.specs.Reading.{written};
 ghost use Rattle.description.specs.Drafts.{image_lists, image_added, part_lists, part_pushed, told_with, module_with, new_module, module_lists, module_opened, module_grown, lists, row_added, written_said, list_grown, longer_lines, longer_site, parted};
 
@@ -16,7 +17,7 @@ use provider::symbols::ModuleState;
 
 impl Draft {
     pub fn add(&mut self, line: Line<'_>) -> Result<(), AddError>
-        ensures { Adds result (written_said (Some (written line.entry)) (lists self.old)) (lists self.new) }
+        ensures { AddsAs (Grows (written line.entry) (lists self.old)) (λ _. lists self.new) result (written_said (Some (written line.entry)) (lists self.old)) }
     {
         match line.quoted {
             Some(raw) => {
@@ -28,7 +29,7 @@ impl Draft {
     }
 
     fn add_row(&mut self, row: Row) -> Result<(), AddError>
-        ensures { Adds result (row_added row (lists self.old)) (lists self.new) }
+        ensures { Adds (Lengthens row) result (row_added row (lists self.old)) (lists self.new) }
     {
         match row {
             Row::Text => Ok(()),
@@ -43,7 +44,7 @@ impl Draft {
 
 impl ImageDraft {
     fn add(&mut self, row: ImageRow) -> Result<(), AddError>
-        ensures { Adds result (image_added row (image_lists self.old)) (image_lists self.new) }
+        ensures { Adds (ImageLengthens row) result (image_added row (image_lists self.old)) (image_lists self.new) }
     {
         match row {
             ImageRow::Section(section) => push_row(&mut self.tables.sections, section),
@@ -89,7 +90,7 @@ impl ImageDraft {
 impl ModuleDraft {
     // A module that has nothing yet.
     fn open(&mut self, state: ModuleState) -> Result<(), AddError>
-        ensures { Adds result (module_opened state (module_lists self.old)) (module_lists self.new) }
+        ensures { Adds (Unit {0}) result (module_opened state (module_lists self.old)) (module_lists self.new) }
     {
         push_row(&mut self.tables.modules, self.tables.parts.module(state))?;
         self.told = Told::default();
@@ -97,7 +98,7 @@ impl ModuleDraft {
     }
 
     fn add(&mut self, part: ModulePart) -> Result<(), AddError>
-        ensures { Adds result (module_grown part (module_lists self.old)) (module_lists self.new) }
+        ensures { Adds (PartLengthens part) result (module_grown part (module_lists self.old)) (module_lists self.new) }
     {
         let module = take_last(&mut self.tables.modules, Mistake::NoModule)?;
         self.told = told_with(self.told, part)?;
@@ -158,7 +159,7 @@ impl PartTables {
     }
 
     fn push(&mut self, part: ModulePart) -> Result<(), AddError>
-        ensures { Adds result (part_pushed part (part_lists self.old)) (part_lists self.new) }
+        ensures { Adds (PartLengthens part) result (part_pushed part (part_lists self.old)) (part_lists self.new) }
     {
         match part {
             ModulePart::Symbol(record) => push_row(&mut self.symbols, record),
@@ -231,7 +232,7 @@ impl RowList for SiteList {
 impl<L: RowList + Drop, R: Drop> ListTables<L, R> {
     // A row more of the newest list.
     fn push(&mut self, row: R, none: Mistake) -> Result<(), AddError>
-        ensures { Adds result (list_grown none L.longer row (parted self.old)) (parted self.new) }
+        ensures { Adds (Unit {0}) result (list_grown none L.longer row (parted self.old)) (parted self.new) }
     {
         let list = take_last(&mut self.lists, none)?;
         push_row(&mut self.lists, list.longer()?)?;

@@ -4,8 +4,9 @@
 ghost use Rattle.std.specs.Prelude.{◌≡◌};
 ghost use Rattle.std.specs.Option.{unwrap_or};
 ghost use Rattle.description.specs.Drafts.{nothing, image_lists, lists, line_said};
-ghost use Rattle.description.specs.Mistakes.{Adds};
+ghost use Rattle.description.specs.Mistakes.{AddsAs};
 ghost use Rattle.description.specs.Described.{content, numbered, described, description_of, starts_at_most, addresses_at_most, Reads};
+ghost use Rattle.description.specs.Memory.{LineGrows, TextRunsOut};
 ghost use Rattle.description.specs.Sound.{AlwaysSound};
 ghost use Rattle.description.specs.Spelling.{WordsDecide};
 
@@ -51,7 +52,7 @@ pub struct Description {
 
 #[tactic(auto, using(crate::proofs::Cutting::lines))]
 pub fn read_description(heap: Global, input: &[u8]) -> Result<Description, ReadError>
-    ensures described { Reads content result (description_of input.now) }
+    ensures described { Reads (TextRunsOut input.now) content result (description_of input.now) }
     ensures sound { AlwaysSound }
     ensures words { WordsDecide }
 {
@@ -98,7 +99,7 @@ fn new_draft(heap: Global) -> Draft
 }
 
 fn read_line(draft: &mut Draft, number: u64, line: &[u8]) -> Result<(), ReadError>
-    ensures { Reads (λ _. lists draft.new) result (numbered number (line_said line.now (lists draft.old))) }
+    ensures { Reads (LineGrows line.now (lists draft.old)) (λ _. lists draft.new) result (numbered number (line_said line.now (lists draft.old))) }
 {
     match add_line(draft, line) {
         Ok(()) => Ok(()),
@@ -108,7 +109,7 @@ fn read_line(draft: &mut Draft, number: u64, line: &[u8]) -> Result<(), ReadErro
 
 #[tactic(auto, unfolding(crate::specs::Drafts::line_said))]
 fn add_line(draft: &mut Draft, line: &[u8]) -> Result<(), AddError>
-    ensures { Adds result (line_said line.now (lists draft.old)) (lists draft.new) }
+    ensures { AddsAs (LineGrows line.now (lists draft.old)) (λ _. lists draft.new) result (line_said line.now (lists draft.old)) }
 {
     match read_row(line)? {
         Some(line) => draft.add(line),

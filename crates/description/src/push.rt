@@ -1,5 +1,6 @@
 // How a list grows.
-ghost use Rattle.std.specs.Prelude.{◌≡◌, ◌^◌, ◌<◌, ◌≤◌, vec_len};
+ghost use Rattle.std.specs.Prelude.{◌≡◌, ◌^◌, ◌<◌, ◌≤◌, vec_len, vec_capacity, OnOk};
+ghost use Rattle.words.specs.Quotes.{complete};
 ghost use Rattle.description.specs.Lists.{appended, pushed, once, newest, grown, part_at};
 ghost use Rattle.description.specs.Mistakes.{Adds, AddsAs};
 
@@ -13,7 +14,7 @@ const LIST_LIMIT: usize = u32::MAX as usize;
 
 // Appends what the bytes between two quotes stand for, and says where it stands.
 pub fn append(text: &mut Vec<u8>, raw: &[u8]) -> Result<TextPart, AddError>
-    ensures { AddsAs (λ p. (text.new.items, p)) result (appended raw.now text.old.items) }
+    ensures { AddsAs (0 < complete raw.now) (λ p. (text.new.items, p)) result (appended raw.now text.old.items) }
 {
     let start = text.len();
     unquote(raw, text)?;
@@ -25,7 +26,7 @@ pub fn append(text: &mut Vec<u8>, raw: &[u8]) -> Result<TextPart, AddError>
 }
 
 pub fn push_row<T: Drop>(rows: &mut Vec<T>, row: T) -> Result<(), AddError>
-    ensures added { Adds result (pushed rows.old.items row) rows.new.items }
+    ensures added { Adds (vec_capacity rows.old ≤ vec_len rows.old) result (pushed rows.old.items row) rows.new.items }
     ensures few { vec_len rows.old < 2 ^ 32 → vec_len rows.new < 2 ^ 32 }
 {
     if rows.len() >= LIST_LIMIT {
@@ -36,14 +37,15 @@ pub fn push_row<T: Drop>(rows: &mut Vec<T>, row: T) -> Result<(), AddError>
 
 #[tactic(auto, using(crate::proofs::Growing::newest_end))]
 pub fn take_last<T: Drop>(rows: &mut Vec<T>, none: Mistake) -> Result<T, AddError>
-    ensures last { AddsAs (λ x. (rows.new.items, x)) result (newest none rows.old.items) }
+    ensures last { AddsAs ⊥ (λ x. (rows.new.items, x)) result (newest none rows.old.items) }
+    ensures room { OnOk result (vec_len rows.new < vec_capacity rows.new) }
     ensures len { vec_len rows.new ≤ vec_len rows.old }
 {
     rows.pop().ok_or(AddError::Wrong(none))
 }
 
 pub fn set_once<T: Drop>(slot: &mut Option<T>, value: T, twice: Mistake) -> Result<(), AddError>
-    ensures { Adds result (once twice slot.old value) slot.new }
+    ensures { Adds ⊥ result (once twice slot.old value) slot.new }
 {
     if slot.is_some() {
         return Err(AddError::Wrong(twice));
