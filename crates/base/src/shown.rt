@@ -1,8 +1,14 @@
 // Refusals in words.
+ghost use Rattle.std.specs.Prelude.{◌≡◌, Some};
+ghost use Rattle.base.specs.Messages.{step_text, list_text, table_text, reason, details, refusal_text};
+ghost use Rattle.std.specs.Fmt.{DisplaysOnOk};
+
 use crate::refusal::{FaultyList, Refusal, RowTable, Step};
 use std::fmt;
 
 impl fmt::Display for Step {
+    ghost output = { λ s. Some (step_text s) };
+
     fn fmt<W: fmt::Write>(&self, f: &mut fmt::Formatter<W>) -> fmt::Result {
         f.write_str(match self {
             Step::Opening => "opening",
@@ -22,6 +28,8 @@ impl fmt::Display for Step {
 }
 
 impl fmt::Display for FaultyList {
+    ghost output = { λ l. Some (list_text l) };
+
     fn fmt<W: fmt::Write>(&self, f: &mut fmt::Formatter<W>) -> fmt::Result {
         f.write_str(match self {
             FaultyList::PublicSymbols => "public symbols",
@@ -33,6 +41,8 @@ impl fmt::Display for FaultyList {
 }
 
 impl fmt::Display for RowTable {
+    ghost output = { λ t. Some (table_text t) };
+
     fn fmt<W: fmt::Write>(&self, f: &mut fmt::Formatter<W>) -> fmt::Result {
         f.write_str(match self {
             RowTable::Sections => "sections",
@@ -50,7 +60,9 @@ impl fmt::Display for RowTable {
 }
 
 impl Refusal {
-    fn what(&self) -> &'static str {
+    fn what(&self) -> &'static str
+        ensures { result.now ≡ reason self.now }
+    {
         match self {
             Refusal::StartTableFull { .. } => "the table of starts is full",
             Refusal::ContributionTableFull => "the table of contributions is full",
@@ -72,18 +84,11 @@ impl Refusal {
             Refusal::Fault { .. } => "a fault of the source",
         }
     }
-}
 
-// What is refused, at which step, and then each thing that the refusal names.
-impl fmt::Display for Refusal {
-    fn fmt<W: fmt::Write>(&self, f: &mut fmt::Formatter<W>) -> fmt::Result {
-        write!(f, "{}, at {}", self.what(), self.step())?;
-        if let Some(item) = self.item() {
-            write!(f, ", item {item}")?;
-        }
-        if let Some(module) = self.module() {
-            write!(f, ", module {module}")?;
-        }
+    // What only some refusals name.
+    fn write_details<W: fmt::Write>(&self, f: &mut fmt::Formatter<W>) -> fmt::Result
+        ensures { DisplaysOnOk W.write_str_gives f.old result (Some (details self.now)) f.new }
+    {
         match self {
             Refusal::FrameTableShort { needed } => write!(f, ", rows needed {needed}"),
             Refusal::BadRow { table, row } => write!(f, ", table {table}, row {row}"),
@@ -96,5 +101,21 @@ impl fmt::Display for Refusal {
             Refusal::Fault { list, code } => write!(f, ", code {}, list {list}", code.0),
             _ => Ok(()),
         }
+    }
+}
+
+// What is refused, at which step, and then each thing that the refusal names.
+impl fmt::Display for Refusal {
+    ghost output = { λ r. Some (refusal_text r) };
+
+    fn fmt<W: fmt::Write>(&self, f: &mut fmt::Formatter<W>) -> fmt::Result {
+        write!(f, "{}, at {}", self.what(), self.step())?;
+        if let Some(item) = self.item() {
+            write!(f, ", item {item}")?;
+        }
+        if let Some(module) = self.module() {
+            write!(f, ", module {module}")?;
+        }
+        self.write_details(f)
     }
 }

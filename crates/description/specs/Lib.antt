@@ -5,6 +5,7 @@ pub mod Reading
 pub mod Spelling
 pub mod Rows
 pub mod Mistakes
+pub mod Messages
 pub mod Lists
 pub mod Drafts
 pub mod Names

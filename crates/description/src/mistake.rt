@@ -1,6 +1,7 @@
 // What is wrong with a description, and where.
-ghost use Rattle.std.specs.Prelude.{◌≡◌};
+ghost use Rattle.std.specs.Prelude.{◌≡◌, Some};
 ghost use Rattle.description.specs.declared.mistake.AddError.TheVariants.{NoMemory, Wrong};
+ghost use Rattle.description.specs.Messages.{mistake_text, error_text};
 ghost use Rattle.description.specs.Mistakes.{quote_mistake, at_line};
 
 use std::alloc::{AllocError, AllocFailed};
@@ -44,6 +45,8 @@ pub enum Mistake {
 }
 
 impl fmt::Display for Mistake {
+    ghost output = { λ m. Some (mistake_text m) };
+
     fn fmt<W: fmt::Write>(&self, f: &mut fmt::Formatter<W>) -> fmt::Result {
         f.write_str(match self {
             Mistake::UnknownRow => "no row begins with this word",
@@ -143,6 +146,8 @@ impl AddError {
 }
 
 impl fmt::Display for ReadError {
+    ghost output = { λ e. Some (error_text e) };
+
     fn fmt<W: fmt::Write>(&self, f: &mut fmt::Formatter<W>) -> fmt::Result {
         match self {
             ReadError::At { line, mistake } => write!(f, "line {line}: {mistake}"),
