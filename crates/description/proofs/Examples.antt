@@ -1,5 +1,5 @@
 -- A line of each kind and the row that it is, some lines that are none, and a whole text. Assumes nothing.
-use Rattle.std.proofs.Common.{◌≡◌, ℕ, true, false, List, [], ◌∷◌, ◌++◌, map, Some, None, Ok, Err, refl}
+use Rattle.std.proofs.Common.{◌≡◌, ℕ, true, false, List, [], ◌∷◌, ◌++◌, map, Some, None, Ok, Err, Option, inr, ⊎_elim, subst, arith, refl}
 use Prim.Native.String.{String}
 use Rattle.std.specs.Prelude.{codes}
 use Rattle.std.specs.List.{join_with_byte}
@@ -20,9 +20,11 @@ use Rattle.description.specs.declared.row.ModulePart.TheVariants.{Symbol as Symb
 use Rattle.description.specs.declared.row.Row.{Row}
 use Rattle.description.specs.declared.row.Row.TheVariants.{Text, Image, Module, Part, Hide, Ask}
 use Rattle.description.specs.Described.{description_of}
-use Rattle.description.specs.Drafts.{parts_nothing, line_said}
+use Rattle.description.specs.Checks.{Checked}
+use Rattle.description.specs.Drafts.{Lists, nothing, parts_nothing, line_said}
 use Rattle.description.specs.Fields.{no_place}
-use Rattle.description.specs.Reading.{line_row, image_row_of, part_of, record_of}
+use Rattle.description.specs.Memory.{Grows, LineGrows}
+use Rattle.description.specs.Reading.{Written, line_row, image_row_of, part_of, record_of}
 use Rattle.description.specs.Words.{keyword_of, number_in}
 
 abbrev at : ℕ → ℕ → SectionOffset
@@ -130,3 +132,18 @@ small = refl
 wrong_line : description_of (text_of ("# nothing" ∷ "" ∷ "section 1 2 code" ∷ "list" ∷ [])) ≡ Err (At 3 NotAKind)
 unfolding keyword_of is_utf8 chars encode image_row_of number_in line_said
 wrong_line = refl
+
+-- a blank line makes nothing longer, nor does an end that is said; a section does
+blank_grows : (a : Lists) → LineGrows (codes "  # nothing") a → ⊥
+blank_grows a g = absurd cc
+
+end_grows : (a : Lists) → LineGrows (codes "publics end clean") a → ⊥
+unfolding keyword_of is_utf8 chars encode image_row_of number_in
+end_grows a g = ⊎_elim (λ x. x) (λ p. p.0) (subst (λ w. Grows w a) (written_one _ _ g.1) g.2)
+  where
+    written_one : (v w : Written) → ◌≡◌ {A = Checked (Option Written)} (Ok (Some v)) (Ok (Some w)) → w ≡ v
+    written_one v w e = grind (arith)
+
+section_grows : LineGrows (codes "section 0x1000 512 executable") nothing
+unfolding keyword_of is_utf8 chars encode image_row_of number_in
+section_grows = (_, refl, inr (tt, refl))
