@@ -23,7 +23,7 @@ use Rattle.description.specs.Described.{description_of}
 use Rattle.description.specs.Checks.{Checked}
 use Rattle.description.specs.Drafts.{Lists, nothing, parts_nothing, line_said}
 use Rattle.description.specs.Fields.{no_place}
-use Rattle.description.specs.Memory.{Grows, LineGrows}
+use Rattle.description.specs.Memory.{RowGrows, LineGrows}
 use Rattle.description.specs.Reading.{Written, line_row, image_row_of, part_of, record_of}
 use Rattle.description.specs.Words.{keyword_of, number_in}
 
@@ -139,7 +139,7 @@ blank_grows a g = absurd cc
 
 end_grows : (a : Lists) → LineGrows (codes "publics end clean") a → ⊥
 unfolding keyword_of is_utf8 chars encode image_row_of number_in
-end_grows a g = ⊎_elim (λ x. x) (λ p. p.0) (subst (λ w. Grows w a) (written_one _ _ g.1) g.2)
+end_grows a g = ⊎_elim (λ x. x) (λ p. p.0) (subst (λ w. RowGrows w a) (written_one _ _ g.1) g.2)
   where
     written_one : (v w : Written) → ◌≡◌ {A = Checked (Option Written)} (Ok (Some v)) (Ok (Some w)) → w ≡ v
     written_one v w e = grind (arith)

@@ -34,11 +34,12 @@ abbrev pub QuoteLengthens : Option (List ℕ) → Type 0
 QuoteLengthens None = ⊥
 QuoteLengthens (Some raw) = 0 < complete raw
 
-abbrev pub Grows : Written → Lists → Type 0
-Grows w a = QuoteLengthens w.quoted ⊎ (Lengthens w.row × IsOk (written_said (Some w) a))
+-- that, or the row has no mistake and a list gets longer
+abbrev pub RowGrows : Written → Lists → Type 0
+RowGrows w a = QuoteLengthens w.quoted ⊎ (Lengthens w.row × IsOk (written_said (Some w) a))
 
 abbrev pub LineGrows : List ℕ → Lists → Type 0
-LineGrows line a = (w : Written) × (line_row line ≡ Ok (Some w)) × Grows w a
+LineGrows line a = (w : Written) × (line_row line ≡ Ok (Some w)) × RowGrows w a
 
 -- at the first of these lines, or below it where that line has no mistake
 abbrev pub RunsOut : List (List ℕ) → Lists → Type 0

@@ -2,7 +2,7 @@
 ghost use Rattle.std.specs.Prelude.{◌≡◌, Some};
 ghost use Rattle.description.specs.Checks.{Checked};
 ghost use Rattle.description.specs.Mistakes.{Adds, AddsAs};
-ghost use Rattle.description.specs.Memory.{ImageLengthens, PartLengthens, Lengthens, Grows};
+ghost use Rattle.description.specs.Memory.{ImageLengthens, PartLengthens, Lengthens, RowGrows};
 ghost use Rattle.description.specs.Reading.{written};
 ghost use Rattle.description.specs.Drafts.{image_lists, image_added, part_lists, part_pushed, told_with, module_with, new_module, module_lists, module_opened, module_grown, lists, row_added, written_said, list_grown, longer_lines, longer_site, parted};
 
@@ -17,7 +17,7 @@ use provider::symbols::ModuleState;
 
 impl Draft {
     pub fn add(&mut self, line: Line<'_>) -> Result<(), AddError>
-        ensures { AddsAs (Grows (written line.entry) (lists self.old)) (λ _. lists self.new) result (written_said (Some (written line.entry)) (lists self.old)) }
+        ensures { AddsAs (RowGrows (written line.entry) (lists self.old)) (λ _. lists self.new) result (written_said (Some (written line.entry)) (lists self.old)) }
     {
         match line.quoted {
             Some(raw) => {
