@@ -56,40 +56,50 @@ impl Options {
     ) -> Result<(), Failure>
         ensures { into_iter_len rest.new ≤ into_iter_len rest.old }
     {
-        let heap = rt.alloc();
         match word.as_str() {
-            option @ "--address" => {
-                let address = address_after(heap, option, rest)?;
-                self.asked.addresses.push(address)?;
-            }
-            option @ "--addresses" => {
-                let path = word_after(heap, option, rest)?;
-                let bytes = input.read(rt, path.as_str())?;
-                read_addresses(
-                    heap,
-                    &mut self.asked.addresses,
-                    path.as_str(),
-                    bytes.as_slice(),
-                )?;
-            }
-            option @ "--same" => {
-                let first = address_after(heap, option, rest)?;
-                let second = address_after(heap, option, rest)?;
-                self.asked.pairs.push((first, second))?;
-            }
-            option @ "--replay" => {
-                let path = word_after(heap, option, rest)?;
-                self.requests.push(Request::Replay(path))?;
-            }
             "--frames" => self.asked.form = Form::Frames,
             "--stack" => self.asked.form = Form::Stack,
             "--list" => self.asked.list = true,
             "--check" => self.asked.check = true,
             "--answers" => self.asked.only_answers = true,
-            option if option.starts_with("--") => {
-                return Err(wrong_word(heap, option, Flaw::UnknownOption));
-            }
+            option if option.starts_with("--") => self.take_with(rt, input, option, rest)?,
             _ => self.requests.push(Request::Image(word))?,
+        }
+        Ok(())
+    }
+
+    // An option that takes the words after it.
+    fn take_with(
+        &mut self,
+        rt: &HostRuntime,
+        input: &mut Input,
+        option: &str,
+        rest: &mut Args,
+    ) -> Result<(), Failure>
+        ensures { into_iter_len rest.new ≤ into_iter_len rest.old }
+    {
+        let heap = rt.alloc();
+        match option {
+            "--address" => {
+                let address = address_after(heap, option, rest)?;
+                self.asked.addresses.push(address)?;
+            }
+            "--addresses" => {
+                let path = word_after(heap, option, rest)?;
+                let bytes = input.read(rt, path.as_str())?;
+                let addresses = &mut self.asked.addresses;
+                read_addresses(heap, addresses, path.as_str(), bytes.as_slice())?;
+            }
+            "--same" => {
+                let first = address_after(heap, option, rest)?;
+                let second = address_after(heap, option, rest)?;
+                self.asked.pairs.push((first, second))?;
+            }
+            "--replay" => {
+                let path = word_after(heap, option, rest)?;
+                self.requests.push(Request::Replay(path))?;
+            }
+            _ => return Err(wrong_word(heap, option, Flaw::UnknownOption)),
         }
         Ok(())
     }

@@ -39,22 +39,35 @@ fn write_entry(heap: Global, out: &mut String, entry: &Entry<'_>) -> Result<bool
     let printed = answered(heap, entry.description.as_str())?;
     let known = entry.answers.as_slice();
     let port: Vec<&str> = printed.as_str().lines().collect(heap)?;
-    let same = known
-        .iter()
-        .zip(port.iter())
-        .take_while(|(known, port)| agree(known, port))
-        .count();
+    let same = alike(known, port.as_slice());
     if same == known.len() && same == port.len() {
         return Ok(false);
     }
     writeln!(out, "differs: {}", entry.title)?;
-    for line in known.iter().skip(same) {
-        writeln!(out, "  list {line}")?;
-    }
-    for line in port.iter().skip(same) {
-        writeln!(out, "  port {line}")?;
-    }
+    write_rest(out, "list", known, same)?;
+    write_rest(out, "port", port.as_slice(), same)?;
     Ok(true)
+}
+
+// How many lines agree before the first that do not.
+fn alike(known: &[&str], port: &[&str]) -> usize {
+    known
+        .iter()
+        .zip(port.iter())
+        .take_while(|(known, port)| agree(known, port))
+        .count()
+}
+
+fn write_rest(
+    out: &mut String,
+    whose: &str,
+    lines: &[&str],
+    from: usize,
+) -> Result<(), AllocError> {
+    for line in lines.iter().skip(from) {
+        writeln!(out, "  {whose} {line}")?;
+    }
+    Ok(())
 }
 
 // What is printed for the image of a description, or what is wrong with it.
