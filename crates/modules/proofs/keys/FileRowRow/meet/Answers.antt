@@ -1,0 +1,5 @@
+use Rattle.std.proofs.Common.{rules}
+use Rattle.modules.proofs.keys.FileRowRow.meet.Goals as goal
+
+pub returns : goal.returns
+returns c = search rules
