@@ -101,7 +101,6 @@ impl ModuleRows<'_> {
 }
 
 // The first row of a part that does not come after its neighbour is refused, by its number in the whole table.
-#[tactic(auto, using(crate::proofs::Searches::unrisen_position))]
 fn check_part_rises<R: Row>(rows: &[R], range: RowRange, table: RowTable) -> Result<(), Refusal>
     ensures { result_err result ≡ part_unrisen R.Row.rank table rows.now range }
 {
