@@ -54,21 +54,6 @@ returns-in-Ok-clause-runs g c = blocks_are_runs (all_kept (g.S.ImageSource.image
 pub returns-in-Ok-clause-one : goal.returns-in-Ok-clause-one
 returns-in-Ok-clause-one g c = one_outcome (g.S.ImageSource.image c.args.source.now) (length c.args.tables.now.starts.now) (length c.args.tables.now.contributions.now)
 
-pub returns-in-Ok-clause-refused : goal.returns-in-Ok-clause-refused
-returns-in-Ok-clause-refused g c = tt
-
-pub returns-in-Ok-clause-place : goal.returns-in-Ok-clause-place
-returns-in-Ok-clause-place g c = tt
-
-pub returns-in-Ok-clause-starts : goal.returns-in-Ok-clause-starts
-returns-in-Ok-clause-starts g c = tt
-
-pub returns-in-Ok-clause-contributions : goal.returns-in-Ok-clause-contributions
-returns-in-Ok-clause-contributions g c = tt
-
-pub returns-in-Ok-clause-given_back : goal.returns-in-Ok-clause-given_back
-returns-in-Ok-clause-given_back g c = tt
-
 pub returns-in-Err-clause-refused : goal.returns-in-Err-clause-refused
 returns-in-Err-clause-refused g c = c.in-Err.ensures.refused c.args.tables.now.starts.now c.args.tables.now.contributions.now (
   holds_start _ _ _ (c.over.ensures.rows ∙ ap (λ r. r.now) c.replace.ensures.value) c.over.ensures.count,
