@@ -3,9 +3,9 @@ use Rattle.std.proofs.Common.{◌≡◌, ℕ, suc, ◌+◌, ◌-◌, ◌<◌, �
 use Rattle.std.proofs.lemmas.List.{take_at, drop_at, length-append, length-drop, length-take-le, drop-drop}
 use Rattle.std.proofs.lemmas.Bool.{cond-true, cond-false, le-ltb, lt-ltb}
 use Rattle.order.specs.declared.Meeting.{Meeting}
-use Rattle.order.specs.Rank.{before, same}
+use Rattle.order.specs.Rank.{before, same, InOrder}
 use Rattle.order.specs.Placed.{placed, Settled}
-use Rattle.order.proofs.Rows.{pairwise-none, in_order-placed, length-placed_both, tally-placed_both, length-placed_least}
+use Rattle.order.proofs.Rows.{pairwise-none, in_order-placed, in_order_from_rises, length-placed_both, tally-placed_both, length-placed_least}
 use Rattle.base.specs.Rows.{start_rank, start_meets, contribution_rank, contribution_meets}
 use Rattle.base.specs.declared.context.KnownStart.{KnownStart}
 use Rattle.base.specs.declared.context.Contribution.{Contribution}
@@ -45,6 +45,9 @@ module _ {X : Type 0} (rank : X → List ℕ) (meets : X → X → Meeting) (old
 
 pub holds-none : (old : List KnownStart) → Holds [] old old 0
 holds-none old = record { known = known-none; counted = refl; untouched = untouched-none old }
+
+pub holds-in_order : (cs old rows : List KnownStart) (count : ℕ) → Holds cs old rows count → InOrder start_rank (take count rows)
+holds-in_order cs old rows count h = in_order_from_rises start_rank (take count rows) h.known.rises
 
 holds-length : (cs old rows : List KnownStart) (count : ℕ) → Holds cs old rows count → length (take count rows) ≡ offset_count cs
 holds-length cs old rows count h = length-take-le count rows h.untouched.few ∙ h.counted

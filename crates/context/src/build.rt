@@ -1,5 +1,6 @@
 // Building a context.
-ghost use Rattle.std.specs.Prelude.{◌≡◌, [], length, replicate, IfErr, Err, filter, OnErr, OnOk};
+ghost use Rattle.std.specs.Prelude.{◌≡◌, ◌≤◌, [], length, take, replicate, IfErr, Err, filter, OnErr, OnOk};
+ghost use Rattle.order.specs.Rank.{InOrder};
 ghost use Rattle.base.specs.Rows.{named, no_start, no_contribution};
 ghost use Rattle.building.specs.Outcome.{all_kept, Outcome, OneOutcome};
 ghost use Rattle.building.specs.Runs.{BlocksAreRuns};
@@ -9,6 +10,7 @@ use crate::tables::{Context, Tables};
 use base::context::{Contribution, KnownStart};
 use base::refusal::Refusal;
 use image::ImageSource;
+use order::Row;
 use sections::Sections;
 use std::mem;
 use steps::tables::Filling;
@@ -64,11 +66,11 @@ pub fn build<'a, S: ImageSource>(
     } = filling;
     match filled {
         Ok(sections) => {
-            let named_count = count_named(starts.used().rows);
+            let named_count = count_named(starts.used());
             *place = Context {
                 sections,
-                starts: starts.freeze(),
-                contributions: contributions.freeze(),
+                starts: freeze(starts),
+                contributions: freeze(contributions),
                 named_count,
             };
             Ok(())
@@ -87,4 +89,14 @@ fn count_named(starts: &[KnownStart]) -> usize
     ensures { result ≡ length (filter named starts.now) }
 {
     starts.iter().filter(|start| start.name.is_some()).count()
+}
+
+// The table as it stands, from now on only to be read.
+fn freeze<'a, R: Row>(table: Table<'a, R>) -> FilledTable<'a, R>
+    requires { (table.count ≤ length table.rows.now) × InOrder R.Row.rank (take table.count table.rows.now) }
+    ensures rows { result.rows.now ≡ table.entry.rows.now }
+    ensures count { result.count ≡ table.entry.count }
+{
+    let Table { rows, count } = table;
+    FilledTable { rows, count }
 }

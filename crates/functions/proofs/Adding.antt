@@ -8,7 +8,7 @@ use Rattle.order.specs.declared.Row.{Ghosts}
 use Rattle.base.specs.declared.image.Section.{Section}
 use Rattle.base.specs.declared.image.SectionOffset.{SectionOffset}
 use Rattle.base.specs.declared.refusal.Refusal.{Refusal}
-use Rattle.table.specs.declared.Table.{Table}
+use Rattle.table.specs.declared.ordered.OrderedTable.{OrderedTable}
 use Rattle.inlining.specs.Steps.{then as and_then}
 use Rattle.addresses.specs.declared.Address.{Address}
 use Rattle.addresses.specs.Rows.{address_rank, address_meets}
@@ -52,7 +52,7 @@ further m n le us vs e =
     ap (λ k. drop k us) (sym s) ∙ sym (drop-drop (n - m) m us) ∙ ap (drop (n - m)) e ∙ drop-drop (n - m) m vs ∙ ap (λ k. drop k vs) s
 
 -- some places, and then more
-pub adds_more : {g : Ghosts Address} {U : Type 0} (sections : List Section) (os ps : List SectionOffset) (a b c : Table Address g) (r : Result U Refusal) → Adds {U = ⊤} sections os a b (Ok tt) → length b.rows.now ≡ length a.rows.now → b.count ≤ c.count → Adds sections ps b c r → Adds sections (os ++ ps) a c r
+pub adds_more : {g : Ghosts Address} {U : Type 0} (sections : List Section) (os ps : List SectionOffset) (a b c : OrderedTable Address g) (r : Result U Refusal) → Adds {U = ⊤} sections os a b (Ok tt) → length b.rows.now ≡ length a.rows.now → b.count ≤ c.count → Adds sections ps b c r → Adds sections (os ++ ps) a c r
 adds_more sections os ps a b c r f l up h = record {
   answer =
       h.answer ∙
@@ -63,7 +63,7 @@ adds_more sections os ps a b c r f l up h = record {
 }
 
 -- after a refusal nothing more comes
-pub adds_refused : {g : Ghosts Address} {U : Type 0} (sections : List Section) (os ps : List SectionOffset) (a c : Table Address g) (e : Refusal) → Adds {U = U} sections os a c (Err e) → Adds {U = U} sections (os ++ ps) a c (Err e)
+pub adds_refused : {g : Ghosts Address} {U : Type 0} (sections : List Section) (os ps : List SectionOffset) (a c : OrderedTable Address g) (e : Refusal) → Adds {U = U} sections os a c (Err e) → Adds {U = U} sections (os ++ ps) a c (Err e)
 adds_refused sections os ps a c e f = record {
   answer = ap (λ w. and_then w (λ ys. with_offsets (length a.rows.now) sections ys ps)) f.answer ∙ sym (with_append (length a.rows.now) sections (used a) os ps);
   rest = f.rest;

@@ -1,6 +1,6 @@
 // The addresses of known starts and of procedures, as they come into a table.
 ghost use Rattle.std.specs.Prelude.{◌≡◌, ◌≤◌, [], ◌∷◌, map};
-ghost use Rattle.table.specs.Slice.{SameSlice};
+ghost use Rattle.table.specs.Slice.{SameOrdered};
 ghost use Rattle.sections.specs.Used.{used as used_sections};
 ghost use Rattle.listing.specs.Listing.{rva_of as address_of, start_offset, procedure_offset};
 ghost use Rattle.base.specs.declared.image.SectionOffset.{SectionOffset as Place};
@@ -12,7 +12,7 @@ use base::image::{Section, SectionOffset};
 use base::refusal::Refusal;
 use procedures::row::Procedure;
 use sections::Sections;
-use table::Table;
+use table::OrderedTable;
 
 // What starts at a place of the image.
 pub(crate) trait HasOffset {
@@ -50,13 +50,13 @@ fn rva_of(sections: &[Section], offset: SectionOffset) -> Option<u32>
 // A place without an address is left out.
 #[tactic(auto, using(crate::proofs::Adding::grown))]
 fn add(
-    addresses: &mut Table<Address>,
+    addresses: &mut OrderedTable<Address>,
     sections: &[Section],
     offset: SectionOffset,
 ) -> Result<(), Refusal>
     ensures added { Adds sections.now (offset ∷ []) addresses.old addresses.new result }
     ensures grows { addresses.old.count ≤ addresses.new.count }
-    ensures slice { SameSlice addresses.old addresses.new }
+    ensures slice { SameOrdered addresses.old addresses.new }
 {
     let Some(rva) = rva_of(sections, offset) else {
         return Ok(());
@@ -68,13 +68,13 @@ fn add(
 
 // Adds the addresses of all rows.
 pub(crate) fn add_all<T: HasOffset>(
-    addresses: &mut Table<Address>,
+    addresses: &mut OrderedTable<Address>,
     sections: &Sections,
     rows: &[T],
 ) -> Result<(), Refusal>
     ensures added { Adds (used_sections sections.now) (map T.offset_of rows.now) addresses.old addresses.new result }
     ensures grows { addresses.old.count ≤ addresses.new.count }
-    ensures slice { SameSlice addresses.old addresses.new }
+    ensures slice { SameOrdered addresses.old addresses.new }
 {
     let sections = sections.used();
     for row in rows {

@@ -10,7 +10,7 @@ use base::refusal::Refusal;
 use context::tables::Context;
 use provider::ModuleProvider;
 use shelf::shelf::Shelf;
-use table::Table;
+use table::OrderedTable;
 
 // Lists the addresses of all known functions in the table's first rows: of the known starts and then, module by module, of the procedures.
 // Answers how many rows there are. Refused, every row of the table is the empty row.
@@ -43,7 +43,7 @@ fn fill<P: ModuleProvider>(
     ensures shelf { shelved shelf.new ≡ (listed (P.ModuleProvider.modules provider.now) (meaning context.now) (length addresses.old) (shelved shelf.old)).shelf }
     ensures length { length addresses.new ≡ length addresses.old }
 {
-    let mut addresses = Table::over(addresses);
+    let mut addresses = OrderedTable::over(addresses);
     add_all(
         &mut addresses,
         &context.sections,

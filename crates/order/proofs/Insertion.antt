@@ -1,5 +1,5 @@
 -- What an insertion into the used rows of a table leaves. Assumes nothing.
-use Rattle.std.proofs.Common.{◌≡◌, ℕ, suc, ◌+◌, ◌-◌, ◌<◌, ◌≤◌, min, true, false, List, [], ◌∷◌, ◌++◌, length, get_or, take, drop, set, Some, sym, ap, ◌∙◌, subst, ⊎_elim, arith, drop-cons}
+use Rattle.std.proofs.Common.{◌≡◌, ℕ, suc, ◌+◌, ◌-◌, ◌<◌, ◌≤◌, min, true, false, List, [], ◌∷◌, ◌++◌, length, get_or, take, drop, set, Some, None, Option, sym, refl, ap, ◌∙◌, subst, ⊎_elim, arith, drop-cons}
 use Rattle.std.proofs.lemmas.List.{same_lists, take-append-drop, set_split, set-append_left, length-set, length-take-le, length-append, length-drop, drop_all, take-append-le, get_or_append_left, get_or-append_right, get_or-take, get_or-drop, take_all}
 use Rattle.std.proofs.lemmas.List.Edits.{length-insert, get_or-insert_below, get_or-insert_at, get_or-insert_above}
 use Rattle.std.proofs.lemmas.Bool.{cases_lt, cond-true, cond-false}
@@ -83,6 +83,9 @@ module _ {X : Type 0} (rank : X → List ℕ) (meets : X → X → Meeting) (row
   same_used : placed rank meets r xs ≡ placed rank meets r (take n rows)
   same_used = ap (placed rank meets r) used
 
+  pub settled_stays : placed rank meets r xs ≡ xs → Settled rank meets rows n r (Some n) rows
+  settled_stays e = (sym (ap length (sym same_used ∙ e) ∙ long), few, sym (ap (λ ys. ys ++ drop n rows) (sym same_used ∙ e) ∙ back))
+
   pub settled_gives_way : p < length xs → placed rank meets r xs ≡ set xs p r → Settled rank meets rows n r (Some n) (set rows p r)
   settled_gives_way l e = (
     sym (ap length (sym same_used ∙ e) ∙ length-set xs p r ∙ long),
@@ -97,12 +100,22 @@ module _ {X : Type 0} (rank : X → List ℕ) (meets : X → X → Meeting) (row
     f ∙ ap (λ ys. insert ys p r ++ drop (n + 1) rows) (sym used) ∙ ap (λ ys. ys ++ drop (n + 1) rows) (sym e ∙ same_used),
   )
 
+  pub settled_full : p ≤ length xs → length rows ≤ n → placed rank meets r xs ≡ insert xs p r → Settled rank meets rows n r None rows
+  settled_full l m e =
+      let more : length (placed rank meets r (take n rows)) ≡ n + 1 = ap length (sym same_used ∙ e) ∙ length-insert xs p r l ∙ ap (λ k. k + 1) long in
+      (omega arith, refl)
+
 pub take_min : {X : Type 0} (rows : List X) (m n : ℕ) → m ≡ min n (length rows) → take m rows ≡ take n rows
 take_min rows m n e =
     ⊎_elim
     (λ l. ap (λ k. take k rows) (omega arith))
     (λ l. take_all m rows (omega arith) ∙ sym (take_all n rows l))
     (cases_lt n (length rows))
+
+-- only the used rows count
+pub settled_used : {X : Type 0} (rank : X → List ℕ) (meets : X → X → Meeting) (rows : List X) (m n : ℕ) (r : X) (o : Option ℕ) (rows' : List X) → take m rows ≡ take n rows → Settled rank meets rows m r o rows' → Settled rank meets rows n r o rows'
+settled_used rank meets rows m n r None rows' e h = (subst (λ xs. length rows < length (placed rank meets r xs)) e h.0, h.1)
+settled_used rank meets rows m n r (Some k) rows' e h = (h.0 ∙ ap (λ xs. length (placed rank meets r xs)) e, h.1, h.2 ∙ ap (λ xs. placed rank meets r xs ++ drop k rows) e)
 
 -- what an insertion leaves in order
 pub settled_in_order : {X : Type 0} (rank : X → List ℕ) (meets : X → X → Meeting) (rows : List X) (count n : ℕ) (r : X) (rows' : List X) → InOrder rank (take count rows) → Settled rank meets rows count r (Some n) rows' → InOrder rank (take n rows')

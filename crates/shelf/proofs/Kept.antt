@@ -8,7 +8,7 @@ use Rattle.base.specs.declared.image.FaultCode.{FaultCode}
 use Rattle.base.specs.declared.refusal.Refusal.{Refusal}
 use Rattle.image.specs.Image.{entry}
 use Rattle.building.proofs.Items.{item_within, end_drop, entry_item, entry_end, entry_fault}
-use Rattle.table.specs.declared.Table.{Table}
+use Rattle.table.specs.declared.ordered.OrderedTable.{OrderedTable}
 use Rattle.provider.specs.Modules.{Module}
 use Rattle.provider.specs.declared.symbols.SymbolRecord.{SymbolRecord}
 use Rattle.provider.specs.declared.symbols.Symbol.{Symbol}
@@ -21,7 +21,7 @@ use Rattle.lookup.proofs.Keeping.{kept_by-parents}
 use Rattle.lookup.proofs.Reading.{all_kept_step, in_order_push, parents_push, parents-length}
 use Rattle.shelf.specs.Kept.{Holds, used}
 
-module _ {g : Ghosts Procedure} {g' : Ghosts Parent} {ps : List Procedure} {t : Table Procedure g} {u : Table Parent g'} (h : Holds ps t u) where
+module _ {g : Ghosts Procedure} {g' : Ghosts Parent} {ps : List Procedure} {t : OrderedTable Procedure g} {u : OrderedTable Parent g'} (h : Holds ps t u) where
   -- the rows of the parents suffice to tell what a record adds
   pub kept_is : (k : ℕ) (s : Symbol) → kept_by (used u) k s ≡ kept ps k s
   kept_is k s = ap (λ q. kept_by q k s) h.parents_held ∙ kept_by-parents ps k s
@@ -48,13 +48,13 @@ module _ {g : Ghosts Procedure} {g' : Ghosts Parent} {ps : List Procedure} {t : 
         absurd (omega arith)
 
 -- the first k symbols of module m were read
-pub record Progress {g : Ghosts Procedure} {h : Ghosts Parent} (m : ℕ) (x : Module) (k : ℕ) (t : Table Procedure g) (u : Table Parent h) : Type 0 where
+pub record Progress {g : Ghosts Procedure} {h : Ghosts Parent} (m : ℕ) (x : Module) (k : ℕ) (t : OrderedTable Procedure g) (u : OrderedTable Parent h) : Type 0 where
   pub within : k ≤ length x.symbols
   pub ps : List Procedure
   pub held : Holds ps t u
   pub rest : all_kept m 0 [] x.symbols ≡ all_kept m k ps (drop k x.symbols)
 
-module _ {g : Ghosts Procedure} {h : Ghosts Parent} {m : ℕ} {x : Module} {k : ℕ} {t : Table Procedure g} {u : Table Parent h} (p : Progress m x k t u) where
+module _ {g : Ghosts Procedure} {h : Ghosts Parent} {m : ℕ} {x : Module} {k : ℕ} {t : OrderedTable Procedure g} {u : OrderedTable Parent h} (p : Progress m x k t u) where
   module _ {r : SymbolRecord} (found : entry x.symbols x.symbols_end k ≡ Ok (Some r)) where
     at_k : slice_get x.symbols k ≡ Some r
     at_k = entry_item x.symbols x.symbols_end k r found
@@ -62,7 +62,7 @@ module _ {g : Ghosts Procedure} {h : Ghosts Parent} {m : ℕ} {x : Module} {k : 
     pub inside : k < length x.symbols
     inside = item_within x.symbols k r at_k
 
-    pub progress_more : {t' : Table Procedure g} {u' : Table Parent h} → ((ps : List Procedure) → Holds ps t u → (after : List Procedure) × (with_kept m k ps (kept ps k r.symbol) ≡ Ok after) × Holds after t' u') → Progress m x (k + 1) t' u'
+    pub progress_more : {t' : OrderedTable Procedure g} {u' : OrderedTable Parent h} → ((ps : List Procedure) → Holds ps t u → (after : List Procedure) × (with_kept m k ps (kept ps k r.symbol) ≡ Ok after) × Holds after t' u') → Progress m x (k + 1) t' u'
     progress_more more =
         let after = more p.ps p.held in
         record {

@@ -14,7 +14,7 @@ use base::refusal::Refusal;
 use procedures::row::Procedure;
 use provider::ModuleProvider;
 use provider::symbols::ModuleState;
-use table::Table;
+use table::OrderedTable;
 
 impl Shelf {
     pub fn empty() -> Shelf
@@ -68,7 +68,7 @@ impl Shelf {
         ensures answer { result_err result ≡ (filled «module» (read_through «module» (content ((P.ModuleProvider.modules provider.now).at «module»)))).refusal }
         ensures shelf { shelved self.new ≡ (filled «module» (read_through «module» (content ((P.ModuleProvider.modules provider.now).at «module»)))).shelf }
     {
-        let mut procedures = Table::over(&mut self.rows);
+        let mut procedures = OrderedTable::over(&mut self.rows);
         // a faulty list gives no information
         if let Ok(()) = read_procedures(provider, module, &mut procedures)? {
             let count = procedures.count;

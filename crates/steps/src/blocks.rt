@@ -154,8 +154,7 @@ impl Filling<'_> {
     pub(crate) fn check_overlaps(&self) -> Result<(), Refusal>
         ensures { result_err result ≡ first_overlap (take self.now.contributions.count self.now.contributions.rows.now) }
     {
-        let contributions = self.contributions.used();
-        let [first, others @ ..] = contributions.rows else {
+        let [first, others @ ..] = self.contributions.used() else {
             return Ok(());
         };
         let mut before = first;

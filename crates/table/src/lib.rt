@@ -7,11 +7,14 @@ ghost use Rattle.order.specs.Rank.{InOrder, at};
 ghost use Rattle.order.specs.Placed.{Settled};
 
 mod filled;
+mod ordered;
 mod search;
 mod span;
 
 pub use filled::FilledTable;
 use order::{Meeting, Row};
+pub use ordered::OrderedTable;
+use search::meeting;
 pub use search::{Sorted, find, position, reach};
 pub use span::contains;
 
@@ -19,13 +22,12 @@ pub use span::contains;
 #[derive(Clone, Copy, Debug, PartialEq, Eq)]
 pub struct Full;
 
-// The first `count` rows are used, and in order. The slice is somebody's and stays as long as it is: there is no heap.
+// The first `count` rows are used. They are in order if every row came by `insert`. The slice is somebody's and stays as long as it is: there
+// is no heap.
 #[derive(Drop)]
-pub struct Table<'t, R: Row> {
+pub struct Table<'t, R> {
     pub rows: &'t mut [R],
     pub count: usize,
-    ghost few: { count ≤ length rows.now },
-    ghost ordered: { InOrder R.Row.rank (take count rows.now) },
 }
 
 impl<'t, R: Row + Copy> Table<'t, R> {
@@ -40,55 +42,54 @@ impl<'t, R: Row + Copy> Table<'t, R> {
         Table { rows, count: 0 }
     }
 
-    // Puts `row` in its place. Where a row of its rank stands, `meet` decides.
+    // Puts `row` in its place. Where a row of its rank stands, `meet` decides. A count above the slice's length counts as that length.
     pub fn insert(&mut self, row: R) -> Result<(), Full>
-        ensures outcome { Settled R.Row.rank R.Row.meets self.old.rows.now self.old.count row (if is_ok result then Some self.new.count else None) self.new.rows.now }
+        ensures outcome { InOrder R.Row.rank (take self.old.count self.old.rows.now) → Settled R.Row.rank R.Row.meets self.old.rows.now self.old.count row (if is_ok result then Some self.new.count else None) self.new.rows.now }
         ensures full { is_ok result ≡ false → self.new.count ≡ self.old.count }
         ensures slice { SameSlice self.old self.new }
     {
-        let used = self.used();
-        let place = used.position(&row);
-        match used.meeting(place, &row) {
-            Meeting::Stays => {}
-            Meeting::GivesWay => self.rows[place] = row,
-            Meeting::Both if self.has_room() => {
-                open_at(self.rows, self.count, place, row);
-                self.count += 1;
-            }
-            Meeting::Both => return Err(Full),
-        }
+        self.count = insert_row(self.rows, self.count, row).ok_or(Full)?;
         Ok(())
     }
 
     // The used row of the rank of `row`, where one stands.
     pub fn find(&self, row: &R) -> Option<R>
-        ensures { result ≡ at R.Row.rank (R.Row.rank row.now) (take self.now.count self.now.rows.now) }
+        ensures { InOrder R.Row.rank (take self.now.count self.now.rows.now) → result ≡ at R.Row.rank (R.Row.rank row.now) (take self.now.count self.now.rows.now) }
     {
-        self.used().find(row)
+        find(self.used(), row)
     }
 
-    pub fn used(&self) -> Sorted<'_, R>
-        ensures { result.rows.now ≡ take self.now.count self.now.rows.now }
+    pub fn used(&self) -> &[R]
+        ensures { result.now ≡ take self.now.count self.now.rows.now }
     {
-        Sorted {
-            rows: &self.rows[..self.count],
+        &self.rows[..self.count.min(self.rows.len())]
+    }
+}
+
+// The number of used rows afterwards, or none where no row is free.
+fn insert_row<R: Row + Copy>(rows: &mut [R], count: usize, row: R) -> Option<usize>
+    ensures { InOrder R.Row.rank (take count rows.old) → Settled R.Row.rank R.Row.meets rows.old count row result rows.new }
+{
+    let used = count.min(rows.len());
+    let place = position(&rows[..used], &row);
+    match meeting(&rows[..used], place, &row) {
+        Meeting::Stays => Some(used),
+        Meeting::GivesWay => {
+            rows[place] = row;
+            Some(used)
         }
+        Meeting::Both if has_room(rows, used) => {
+            open_at(rows, used, place, row);
+            Some(used + 1)
+        }
+        Meeting::Both => None,
     }
+}
 
-    fn has_room(&self) -> bool
-        ensures { result ≡ nat_lt self.now.count (length self.now.rows.now) }
-    {
-        self.count < self.rows.len()
-    }
-
-    // The table as it stands, from now on only to be read.
-    pub fn freeze(self) -> FilledTable<'t, R>
-        ensures rows { result.rows.now ≡ self.entry.rows.now }
-        ensures count { result.count ≡ self.entry.count }
-    {
-        let Table { rows, count } = self;
-        FilledTable { rows, count }
-    }
+fn has_room<R>(rows: &[R], used: usize) -> bool
+    ensures { result ≡ nat_lt used (length rows.now) }
+{
+    used < rows.len()
 }
 
 // Moves the rows from `place` up to `count` up by one, and writes `row` at `place`.

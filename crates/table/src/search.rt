@@ -49,18 +49,6 @@ impl<R: Row> Sorted<'_, R> {
     {
         reach(self.rows, row)
     }
-
-    // How the row at `place` meets `row`, which goes there. `Both` where no row of its rank stands there.
-    pub(crate) fn meeting(&self, place: usize, row: &R) -> Meeting
-        requires { Place R.Row.rank self.now.rows.now (R.Row.rank row.now) place }
-        ensures within { result ≡ GivesWay → place < length self.now.rows.now }
-        ensures met { placed R.Row.rank R.Row.meets row.now self.now.rows.now ≡ changed result self.now.rows.now place row.now }
-    {
-        match self.rows.get(place) {
-            Some(standing) if standing.compare(row).is_eq() => standing.meet(row),
-            _ => Meeting::Both,
-        }
-    }
 }
 
 impl<R: Row + Copy> Sorted<'_, R> {
@@ -68,5 +56,16 @@ impl<R: Row + Copy> Sorted<'_, R> {
         ensures { result ≡ at R.Row.rank (R.Row.rank row.now) self.now.rows.now }
     {
         find(self.rows, row)
+    }
+}
+
+// How the row at `place` meets `row`. `Both` where no row of its rank stands there.
+pub(crate) fn meeting<R: Row>(rows: &[R], place: usize, row: &R) -> Meeting
+    ensures within { result ≡ GivesWay → place < length rows.now }
+    ensures met { Place R.Row.rank rows.now (R.Row.rank row.now) place → placed R.Row.rank R.Row.meets row.now rows.now ≡ changed result rows.now place row.now }
+{
+    match rows.get(place) {
+        Some(standing) if standing.compare(row).is_eq() => standing.meet(row),
+        _ => Meeting::Both,
     }
 }

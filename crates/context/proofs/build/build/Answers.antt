@@ -4,11 +4,27 @@ use Rattle.order.specs.Rank.{Rises, Pairwise}
 use Rattle.building.specs.Blocks.{apart}
 use Rattle.building.specs.Outcome.{all_kept}
 use Rattle.building.specs.Filling.{Filled}
-use Rattle.building.proofs.Filling.{holds_start, filed_start}
+use Rattle.building.proofs.Filling.{holds-in_order, holds_start, filed_start}
 use Rattle.building.proofs.Outcomes.{filled-outcome, one_outcome}
 use Rattle.building.proofs.Runs.{blocks_are_runs}
 use Rattle.sections.specs.Used.{used}
 use Rattle.context.proofs.build.build.Goals as goal
+
+pub freeze-requires : goal.freeze-requires
+freeze-requires g c =
+    let filled = c.in-Ok.ensures.filled c.args.tables.now.starts.now c.args.tables.now.contributions.now (
+      holds_start _ _ _ (c.over.ensures.rows ∙ ap (λ r. r.now) c.replace.ensures.value) c.over.ensures.count,
+      filed_start _ _ _ (c.over-2.ensures.rows ∙ ap (λ r. r.now) c.replace-2.ensures.value) c.over-2.ensures.count,
+    ) in
+    (filled.starts_hold.untouched.few, holds-in_order _ _ _ _ filled.starts_hold)
+
+pub freeze-requires-in-Ok : goal.freeze-requires-in-Ok
+freeze-requires-in-Ok g c =
+    let filled = c.in-Ok.ensures.filled c.args.tables.now.starts.now c.args.tables.now.contributions.now (
+      holds_start _ _ _ (c.over.ensures.rows ∙ ap (λ r. r.now) c.replace.ensures.value) c.over.ensures.count,
+      filed_start _ _ _ (c.over-2.ensures.rows ∙ ap (λ r. r.now) c.replace-2.ensures.value) c.over-2.ensures.count,
+    ) in
+    (filled.rows_filed.untouched.few, filled.rows_filed.stands.in_order)
 
 pub invariant_of-place : goal.invariant_of-place
 invariant_of-place g c =

@@ -9,10 +9,10 @@ use Rattle.steps.proofs.blocks.close_block.Goals as goal
 pub returns-clause-refused : goal.returns-clause-refused
 returns-clause-refused c = λ bs old h.
     let answer : result_err c.map_err.result ≡ cond (is_ok c.insert.result) None (Some ContributionTableFull) = search rules in
-    answer ∙ block_answer bs old c.args.contributions.now.rows.now c.args.contributions.now.count _ c.args.block _ (is_ok c.insert.result) _ h c.insert.ensures.outcome
+    answer ∙ block_answer bs old c.args.contributions.now.rows.now c.args.contributions.now.count _ c.args.block _ (is_ok c.insert.result) _ h (c.insert.ensures.outcome h.stands.in_order)
 
 pub returns-clause-added : goal.returns-clause-added
 returns-clause-added c = λ bs old h e.
     let came = sym c.map_err.ensures.variant ∙ e in
     filed_more bs old c.args.contributions.now.rows.now c.args.contributions.now.count _ c.args.block _ h
-    (subst (λ b. Settled contribution_rank contribution_meets c.args.contributions.now.rows.now c.args.contributions.now.count c.args.block (cond b (Some c.insert.new.self.count) None) c.insert.new.self.rows.now) came c.insert.ensures.outcome)
+    (subst (λ b. Settled contribution_rank contribution_meets c.args.contributions.now.rows.now c.args.contributions.now.count c.args.block (cond b (Some c.insert.new.self.count) None) c.insert.new.self.rows.now) came (c.insert.ensures.outcome h.stands.in_order))

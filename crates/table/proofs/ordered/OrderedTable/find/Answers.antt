@@ -1,5 +1,5 @@
 use Rattle.std.proofs.Common.{rules}
-use Rattle.table.proofs.Table.has_room.Goals as goal
+use Rattle.table.proofs.ordered.OrderedTable.find.Goals as goal
 
 pub returns : goal.returns
 returns g c = search rules

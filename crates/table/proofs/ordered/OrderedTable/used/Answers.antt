@@ -1,5 +1,5 @@
 use Rattle.std.proofs.Common.{rules}
-use Rattle.table.proofs.Table.find.Goals as goal
+use Rattle.table.proofs.ordered.OrderedTable.used.Goals as goal
 
 pub returns : goal.returns
 returns g c = search rules

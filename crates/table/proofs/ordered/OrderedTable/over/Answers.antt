@@ -1,5 +1,5 @@
 use Rattle.std.proofs.Common.{rules}
-use Rattle.table.proofs.Table.over.Goals as goal
+use Rattle.table.proofs.ordered.OrderedTable.over.Goals as goal
 
 pub invariant_of-result : goal.invariant_of-result
 invariant_of-result g c = search rules
