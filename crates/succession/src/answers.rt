@@ -4,6 +4,7 @@ ghost use Rattle.context.specs.Context.{meaning};
 ghost use Rattle.lookup.specs.Reading.{empty_shelf};
 ghost use Rattle.lookup.specs.Finding.{find_function};
 ghost use Rattle.lookup.specs.Laws.{FirstsInOrder};
+ghost use Rattle.listing.specs.Calls.{History};
 ghost use Rattle.procedures.specs.declared.row.Procedure.{Procedure as Row};
 
 use base::refusal::Refusal;
@@ -23,6 +24,7 @@ pub fn answer_all<P: ModuleProvider>(
 ) -> Resolver<P>
     ensures answers { answers.new ≡ map (λ a. (find_function (P.ImageSource.image provider).text (P.ModuleProvider.modules provider) (meaning context.now) a empty_shelf).answer) (take (length answers.old) addresses.now) ++ drop (length addresses.now) answers.old }
     ensures provider { result.provider ≡ provider }
+    ensures history { History (P.ImageSource.image provider).text (P.ModuleProvider.modules provider) (meaning context.now) }
     ensures firsts { (ps : List Row) → FirstsInOrder ps }
 {
     let mut resolver = Resolver::open(provider);

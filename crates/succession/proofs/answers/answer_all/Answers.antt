@@ -5,8 +5,14 @@ use Rattle.lookup.specs.Finding.{find_function}
 use Rattle.lookup.proofs.Sound.{Sound, function_fresh, function_sound}
 use Rattle.lookup.proofs.Reading.{firsts_in_order}
 use Rattle.lookup.proofs.Resolving.{map_more}
+use Rattle.listing.proofs.History.{history}
 use Rattle.shelf.specs.Shelf.{shelved}
 use Rattle.succession.proofs.answers.answer_all.Goals as goal
+
+pub returns-clause-history : goal.returns-clause-history
+returns-clause-history g c =
+    let p = c.args.provider in
+    history (g.P.ImageSource.image p).text (g.P.ModuleProvider.modules p) (meaning c.args.context.now)
 
 pub returns-clause-firsts : goal.returns-clause-firsts
 returns-clause-firsts g c = firsts_in_order
