@@ -10,7 +10,7 @@ mod options;
 mod replay;
 mod report;
 
-use description::read_description;
+use description::{Description, read_description};
 use failure::{Failure, wrong};
 use input::{Input, shown};
 use options::{Request, read_options};
@@ -18,7 +18,8 @@ use printing::push_escaped;
 use replay::entry::read_entries;
 use replay::write_replayed;
 use report::asked::Asked;
-use report::write_image;
+use report::{Rows, write_image};
+use std::alloc::{AllocError, Global};
 use std::process::ExitCode;
 use std::str;
 
@@ -36,25 +37,30 @@ fn run(rt: &HostRuntime) -> Result<(), Failure> {
     let mut input = Input::new(rt);
     let options = read_options(rt, &mut input)?;
     let mut out = String::new(rt.alloc());
+    let mut written = Ok(());
     for request in options.requests.iter() {
         match request {
             Request::Image(path) => {
-                write_path(rt, &mut input, &mut out, &options.asked, path.as_str())?;
+                let image = write_path(rt, &mut input, &mut out, &options.asked, path.as_str())?;
+                written = written.and(image);
             }
             Request::Replay(path) => write_list(rt, &mut input, &mut out, path.as_str())?,
         }
     }
+    written?;
     rt.print(out.as_str())
         .map_err(|error| wrong(rt.alloc(), "resolve", error))
 }
 
+// A file that is wrong ends the program at once, and so does want of memory for its tables. Want of memory for what is printed is handed on, since a
+// file after this one may be wrong, and then that is told.
 fn write_path(
     rt: &HostRuntime,
     input: &mut Input,
     out: &mut String,
     asked: &Asked,
     path: &str,
-) -> Result<(), Failure> {
+) -> Result<Result<(), AllocError>, Failure> {
     let heap = rt.alloc();
     let bytes = input.read(rt, path)?;
     let description = read_description(heap, bytes.as_slice()).map_err(|error| wrong(
@@ -62,10 +68,22 @@ fn write_path(
         shown(path),
         error,
     ))?;
+    let mut rows = Rows::new(heap, &description, asked)?;
+    Ok(write_named(heap, out, path, &description, asked, &mut rows))
+}
+
+fn write_named(
+    heap: Global,
+    out: &mut String,
+    path: &str,
+    description: &Description,
+    asked: &Asked,
+    rows: &mut Rows,
+) -> Result<(), AllocError> {
     out.push_str("image ")?;
     push_escaped(out, path.as_bytes())?;
     out.push_str("\n")?;
-    Ok(write_image(heap, out, &description, asked)?)
+    write_image(heap, out, description, asked, rows)
 }
 
 fn write_list(

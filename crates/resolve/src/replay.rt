@@ -3,7 +3,7 @@ mod agree;
 pub mod entry;
 
 use crate::report::asked::Asked;
-use crate::report::write_image;
+use crate::report::{Rows, write_image};
 use agree::agree;
 use description::read_description;
 use entry::Entry;
@@ -74,7 +74,11 @@ fn write_rest(
 fn answered(heap: Global, description: &str) -> Result<String, AllocError> {
     let mut out = String::new(heap);
     match read_description(heap, description.as_bytes()) {
-        Ok(description) => write_image(heap, &mut out, &description, &Asked::nothing(heap))?,
+        Ok(description) => {
+            let asked = Asked::nothing(heap);
+            let mut rows = Rows::new(heap, &description, &asked)?;
+            write_image(heap, &mut out, &description, &asked, &mut rows)?;
+        }
         Err(error) => writeln!(out, "unread: {error}")?,
     }
     Ok(out)

@@ -26,14 +26,9 @@ pub fn write_answers<P: ModuleProvider + Drop>(
     context: &Context<'_>,
     description: &Description,
     asked: &Asked,
+    found: &mut [Result<Option<Function>, Refusal>],
 ) -> Result<(), AllocError> {
-    let addresses = asked.addresses.as_slice();
-    let of_functions = match asked.form {
-        Form::Function => addresses,
-        Form::Frames | Form::Stack => &[],
-    };
-    let mut found = vec![in heap; Ok(None); of_functions.len()]?;
-    let mut resolver = answer_all(provider, context, of_functions, found.as_mut_slice());
+    let mut resolver = answer_all(provider, context, asked.of_functions(), found);
     let mut frames = vec![in heap; Frame::empty(); description.frame_rows]?;
     let mut listed = vec![in heap; Address::default(); description.address_rows]?;
     let mut tables = CallTables {
@@ -43,14 +38,7 @@ pub fn write_answers<P: ModuleProvider + Drop>(
     for question in description.questions.iter() {
         write_answer(out, &mut resolver, context, *question, &mut tables)?;
     }
-    write_addresses(
-        out,
-        &mut resolver,
-        context,
-        &mut tables,
-        asked,
-        found.as_slice(),
-    )?;
+    write_addresses(out, &mut resolver, context, &mut tables, asked, found)?;
     for (first, second) in asked.pairs.iter() {
         write_same(out, &mut resolver, context, *first, *second)?;
     }
@@ -58,7 +46,7 @@ pub fn write_answers<P: ModuleProvider + Drop>(
         write_call(out, &mut resolver, context, Call::Functions, &mut tables)?;
     }
     if asked.check {
-        let checked = checked_addresses(heap, description, addresses)?;
+        let checked = checked_addresses(heap, description, asked.addresses.as_slice())?;
         write_check(
             heap,
             out,

@@ -36,4 +36,12 @@ impl Asked {
             only_answers: false,
         }
     }
+
+    // The addresses that are answered by their functions.
+    pub fn of_functions(&self) -> &[u32] {
+        match self.form {
+            Form::Function => self.addresses.as_slice(),
+            Form::Frames | Form::Stack => &[],
+        }
+    }
 }
