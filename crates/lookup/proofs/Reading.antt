@@ -119,6 +119,10 @@ parents_push ps p = fold_push (λ xs x. placed parent_rank parent_meets (parent_
 parents_one : (x r : Parent) → parent_meets x r ≡ Both → ⊥
 parents_one x r e = let z : ◌≡◌ {A = ℕ} 0 1 = cc in omega arith
 
+pub parents-rises : (ps : List Procedure) → Rises parent_rank (parents ps)
+parents-rises ps =
+    rises_gathered parent_rank parent_meets parent_of parents_one [] ps (pairwise-none (λ x y. before (parent_rank x) (parent_rank y)))
+
 -- both have one row for each offset
 pub parents-length : (ps : List Procedure) → length (parents ps) ≡ length (in_order ps)
 parents-length ps =

@@ -17,7 +17,7 @@ use Rattle.base.specs.declared.refusal.RowTable.{RowTable}
 use Rattle.base.specs.declared.refusal.RowTable.TheVariants.{Modules, Records, SiteLists, LineLists, Files}
 use Rattle.provider.specs.declared.symbols.ModuleState.{ModuleState}
 use Rattle.provider.specs.declared.symbols.ModuleState.TheVariants.{Absent, Broken, Present}
-use Rattle.provider.specs.Modules.{Module, Regular, RegularModule, content, index_rank, most_modules, nothing}
+use Rattle.provider.specs.Modules.{Module, Regular, RegularModule, content, index_rank, most_modules, nothing, state_of}
 use Rattle.provider.specs.Names.{symbol_within}
 use Rattle.provider.proofs.Regular.{nothing_regular}
 use Rattle.modules.specs.declared.tables.RowRange.{RowRange}
@@ -177,6 +177,9 @@ means_regular text t h =
 means-nothing : (t : ModuleRows) (k : ℕ) → content ((modules_of t).at k) ≡ nothing → AnswersFor t k no_module
 means-nothing t k e = record { means = e; site_lists = refl; line_lists = refl; files = refl }
 
+pub none_answers : (t : ModuleRows) (k : ℕ) → None ≡ slice_get t.modules.now k → AnswersFor t k no_module
+none_answers t k e = means-nothing t k (ap (λ o. content (row_content t o)) (sym e))
+
 pub present_answers : (text : List ℕ) (t : ModuleRows) → bad_row text t ≡ None → (k : ℕ) (m : ModuleRow) → Some m ≡ slice_get t.modules.now k → m.state ≡ Present → AnswersFor t k m
 present_answers text t h k m e s =
     let g = (good_rows text t h).each k m (sym e) in
@@ -186,3 +189,11 @@ present_answers text t h k m e s =
       line_lists = in_order_from_rises line_rank (part t.line_lists.now m.line_lists) g.line_lists;
       files = in_order_from_rises file_rank (part t.files.now m.files) g.files;
     }
+
+state_kept : (s : ModuleState) (m : Module) → s ≡ state_of (content_of s m)
+state_kept Absent m = refl
+state_kept Broken m = refl
+state_kept Present m = refl
+
+pub state_at : (t : ModuleRows) (k : ℕ) (m : ModuleRow) → Some m ≡ slice_get t.modules.now k → m.state ≡ state_of ((modules_of t).at k)
+state_at t k m e = state_kept m.state (module_of t m) ∙ ap (λ o. state_of (row_content t o)) e
