@@ -52,8 +52,8 @@ fn run(rt: &HostRuntime) -> Result<(), Failure> {
         .map_err(|error| wrong(rt.alloc(), "resolve", error))
 }
 
-// A file that is wrong ends the program at once, and so does want of memory for its tables. Want of memory for what is printed is handed on, since a
-// file after this one may be wrong, and then that is told.
+// A file that is wrong ends the program at once, and so does want of memory for the tables that an image is built in and for its answers. Other want of
+// memory is handed on, since a file after this one may be wrong, and then that is told.
 fn write_path(
     rt: &HostRuntime,
     input: &mut Input,
