@@ -6,11 +6,13 @@ ghost use Rattle.std.specs.Result.{result_err};
 ghost use Rattle.base.specs.declared.context.KnownStart.{KnownStart as Start};
 ghost use Rattle.base.specs.declared.refusal.Step.TheVariants.{ReadPublicSymbols, AddSectionEnds};
 ghost use Rattle.base.specs.declared.refusal.FaultyList.TheVariants.{PublicSymbols};
+ghost use Rattle.base.specs.Rows.{start_rank};
 ghost use Rattle.table.specs.Slice.{SameSlice};
 ghost use Rattle.building.specs.Starts.{symbol_starts, section_ends, or_else};
 ghost use Rattle.building.specs.Outcome.{fault, starts_full};
 ghost use Rattle.building.specs.Filling.{Holds};
 ghost use Rattle.sections.specs.Used.{used};
+ghost use Rattle.starts.specs.Order.{StaysOrdered};
 
 use base::context::KnownStart;
 use base::image::SectionOffset;
@@ -19,6 +21,8 @@ use image::ImageSource;
 use sections::Sections;
 use table::Table;
 
+// Here and in the two steps below, a table that is in order stays in order, refused or not.
+#[tactic(auto, using(crate::proofs::Adding::start_refused, crate::proofs::Order::insert_ordered))]
 pub fn add_start(
     starts: &mut Table<KnownStart>,
     start: KnownStart,
@@ -27,6 +31,7 @@ pub fn add_start(
     ensures refused { (cs old : List Start) → Holds cs old starts.old.rows.now starts.old.count → result_err result ≡ starts_full (length old) (cs ++ start ∷ []) step }
     ensures added { (cs old : List Start) → Holds cs old starts.old.rows.now starts.old.count → is_ok result ≡ true → Holds (cs ++ start ∷ []) old starts.new.rows.now starts.new.count }
     ensures slice { SameSlice starts.old starts.new }
+    ensures ordered { StaysOrdered start_rank starts.old starts.new }
 {
     starts
         .insert(start)
@@ -42,6 +47,7 @@ pub fn read_public_symbols<S: ImageSource>(
     ensures refused { (old : List Start) → Holds [] old starts.old.rows.now starts.old.count → result_err result ≡ or_else (starts_full (length old) (symbol_starts (used sections.now) (S.ImageSource.image source.now).symbols) ReadPublicSymbols) (fault PublicSymbols (S.ImageSource.image source.now).symbols_end) }
     ensures read { (old : List Start) → Holds [] old starts.old.rows.now starts.old.count → is_ok result ≡ true → Holds (symbol_starts (used sections.now) (S.ImageSource.image source.now).symbols) old starts.new.rows.now starts.new.count }
     ensures slice { SameSlice starts.old starts.new }
+    ensures ordered { StaysOrdered start_rank starts.old starts.new }
 {
     for item in 0..=u32::MAX {
         let answer = FaultyList::PublicSymbols.refuse(source.public_symbol(item));
@@ -60,6 +66,7 @@ pub fn add_section_ends(sections: &Sections, starts: &mut Table<KnownStart>) -> 
     ensures refused { (cs old : List Start) → Holds cs old starts.old.rows.now starts.old.count → result_err result ≡ starts_full (length old) (cs ++ section_ends 1 (used sections.now)) AddSectionEnds }
     ensures added { (cs old : List Start) → Holds cs old starts.old.rows.now starts.old.count → is_ok result ≡ true → Holds (cs ++ section_ends 1 (used sections.now)) old starts.new.rows.now starts.new.count }
     ensures slice { SameSlice starts.old starts.new }
+    ensures ordered { StaysOrdered start_rank starts.old starts.new }
 {
     for (index, section) in sections.used().iter().enumerate() {
         if section.executable {

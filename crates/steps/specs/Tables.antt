@@ -1,5 +1,6 @@
 -- What the tables hold that building fills. Assumes nothing.
 use Rattle.std.specs.Prelude.{List, []}
+use Rattle.base.specs.Rows.{start_rank, contribution_rank}
 use Rattle.table.specs.Slice.{SameSlice}
 use Rattle.base.specs.declared.image.SectionContribution.{SectionContribution}
 use Rattle.base.specs.declared.context.KnownStart.{KnownStart}
@@ -8,11 +9,16 @@ use Rattle.image.specs.Image.{Image}
 use Rattle.building.specs.Filling.{Holds, Filed, Filled, Reading}
 use Rattle.sections.specs.declared.list.Sections.{Sections}
 use Rattle.sections.specs.Used.{used}
+use Rattle.starts.specs.Order.{StaysOrdered}
 use Rattle.steps.specs.declared.tables.Filling.{Filling}
 
 -- the same two lent slices
 abbrev pub SameSlices : Filling → Filling → Type 0
 SameSlices before after = SameSlice before.starts after.starts × SameSlice before.contributions after.contributions
+
+-- each of the two tables stays in order
+abbrev pub StayOrdered : Filling → Filling → Type 0
+StayOrdered before after = StaysOrdered start_rank before.starts after.starts × StaysOrdered contribution_rank before.contributions after.contributions
 
 -- no row is used yet
 abbrev pub Fresh : List KnownStart → List Contribution → Filling → Type 0

@@ -6,13 +6,15 @@ ghost use Rattle.base.specs.declared.context.KnownStart.{KnownStart as Start};
 ghost use Rattle.base.specs.declared.context.Contribution.{Contribution as Row};
 ghost use Rattle.base.specs.declared.image.SectionContribution.{SectionContribution as Item};
 ghost use Rattle.base.specs.declared.refusal.Refusal.TheVariants.{Unordered};
+ghost use Rattle.base.specs.Rows.{contribution_rank};
 ghost use Rattle.table.specs.Slice.{SameSlice};
 ghost use Rattle.building.specs.Starts.{contribution_starts, or_else};
 ghost use Rattle.building.specs.Blocks.{end_of, block, joins, grown, blocks, overlaps, first_overlap};
 ghost use Rattle.building.specs.Outcome.{outside, blocks_full, item_refusal, all_symbols, all_kept, contributions_refused};
 ghost use Rattle.building.specs.Filling.{Holds, Filed, Proper};
 ghost use Rattle.sections.specs.Used.{used};
-ghost use Rattle.steps.specs.Tables.{SameSlices, Reads};
+ghost use Rattle.starts.specs.Order.{StaysOrdered};
+ghost use Rattle.steps.specs.Tables.{SameSlices, StayOrdered, Reads};
 
 use crate::tables::Filling;
 use base::context::{Contribution, KnownStart};
@@ -67,10 +69,12 @@ fn extend_block(
     Ok(Contribution { end, ..block })
 }
 
+#[tactic(auto, using(crate::proofs::Adding::block_refused, starts::proofs::Order::insert_ordered))]
 fn close_block(contributions: &mut Table<Contribution>, block: Contribution) -> Result<(), Refusal>
     ensures refused { (bs old : List Row) → Filed bs old contributions.old.rows.now contributions.old.count → result_err result ≡ blocks_full (length old) (block ∷ bs) }
     ensures added { (bs old : List Row) → Filed bs old contributions.old.rows.now contributions.old.count → is_ok result ≡ true → Filed (block ∷ bs) old contributions.new.rows.now contributions.new.count }
     ensures slice { SameSlice contributions.old contributions.new }
+    ensures ordered { StaysOrdered contribution_rank contributions.old contributions.new }
 {
     contributions
         .insert(block)
@@ -101,6 +105,7 @@ impl Filling<'_> {
         ensures refused { (old : List Start) (rows : List Row) → used sections.now ≡ (S.ImageSource.image source.now).sections → Holds (all_symbols (S.ImageSource.image source.now)) old self.old.starts.rows.now self.old.starts.count → Filed [] rows self.old.contributions.rows.now self.old.contributions.count → result_err result ≡ contributions_refused (S.ImageSource.image source.now) (length old) (length rows) }
         ensures read { (old : List Start) (rows : List Row) → used sections.now ≡ (S.ImageSource.image source.now).sections → Holds (all_symbols (S.ImageSource.image source.now)) old self.old.starts.rows.now self.old.starts.count → Filed [] rows self.old.contributions.rows.now self.old.contributions.count → is_ok result ≡ true → Holds (all_symbols (S.ImageSource.image source.now) ++ contribution_starts (all_kept (S.ImageSource.image source.now))) old self.new.starts.rows.now self.new.starts.count × Filed (blocks (all_kept (S.ImageSource.image source.now))) rows self.new.contributions.rows.now self.new.contributions.count × Proper (blocks (all_kept (S.ImageSource.image source.now))) }
         ensures slices { SameSlices self.old self.new }
+        ensures ordered { StayOrdered self.old self.new }
     {
         self.newest = None;
         for item in 0..=u32::MAX {
@@ -121,6 +126,7 @@ impl Filling<'_> {
         ensures refused { (symbols : List Start) (cs : List Item) (old : List Start) (rows : List Row) → Reads symbols cs old rows self.old → result_err result ≡ item_refusal (length old) (length rows) symbols cs item new.now }
         ensures read { (symbols : List Start) (cs : List Item) (old : List Start) (rows : List Row) → Reads symbols cs old rows self.old → 0 < new.now.size → IfOk result (λ b. Reads symbols (cs ++ new.now ∷ []) old rows (record { starts = self.new.starts; contributions = self.new.contributions; newest = Some b })) }
         ensures slices { SameSlices self.old self.new }
+        ensures ordered { StayOrdered self.old self.new }
     {
         let Some(block) = self.newest else {
             return open_block(item, new);
@@ -143,6 +149,7 @@ impl Filling<'_> {
         ensures closed { (bs old : List Row) → Filed (drop 1 bs) old self.old.contributions.rows.now self.old.contributions.count → self.old.newest ≡ slice_get bs 0 → is_ok result ≡ true → Filed bs old self.new.contributions.rows.now self.new.contributions.count }
         ensures starts { self.new.starts ≡ self.old.starts }
         ensures slice { SameSlice self.old.contributions self.new.contributions }
+        ensures ordered { StaysOrdered contribution_rank self.old.contributions self.new.contributions }
     {
         match self.newest {
             Some(block) => close_block(&mut self.contributions, block),

@@ -4,6 +4,7 @@ use Rattle.std.specs.Result.{result_err}
 use Rattle.std.proofs.lemmas.List.{take_all}
 use Rattle.std.proofs.lemmas.Option.{slice_get-get_or}
 use Rattle.std.proofs.lemmas.Result.{err_from_is_err_and}
+use Rattle.base.specs.Rows.{start_rank}
 use Rattle.table.specs.Slice.{SameSlice}
 use Rattle.base.specs.declared.image.Section.{Section}
 use Rattle.base.specs.declared.refusal.Refusal.TheVariants.{StartTableFull}
@@ -12,6 +13,7 @@ use Rattle.building.specs.Starts.{section_ends, offset_count}
 use Rattle.building.specs.Filling.{Holds}
 use Rattle.building.proofs.Sections.{ends_kept, ends_skipped, ends_full}
 use Rattle.sections.specs.Used.{used}
+use Rattle.starts.specs.Order.{StaysOrdered}
 use Rattle.starts.proofs.add_section_ends.Goals as goal
 use Rattle.starts.proofs.add_section_ends.Goals.{then-section+in_ok-add_start, else-section}
 
@@ -50,6 +52,7 @@ loop-index-preserved c =
             (subst (λ ss. Holds ss old w.add_start.new.starts.rows.now w.add_start.new.starts.count) (ends_kept cs sections k (get_or lent k none) found w.if-section.true)
             (subst (λ x. Holds ((cs ++ section_ends 1 (take k sections)) ++ x ∷ []) old w.add_start.new.starts.rows.now w.add_start.new.starts.count) w.from.ensures added)),
         subst (λ t. SameSlice c.args.starts.now t) (sym w.starts-is) (w.add_start.ensures.slice.0 ∙ c.loop-index.invariant.2.0, w.add_start.ensures.slice.1 ∙ c.loop-index.invariant.2.1),
+        subst (λ t. StaysOrdered start_rank c.args.starts.now t) (sym w.starts-is) (λ h. w.add_start.ensures.ordered (c.loop-index.invariant.3 h)),
       )
       | else-section w ↦ (
         within,
@@ -57,6 +60,7 @@ loop-index-preserved c =
             subst (λ t. Holds (cs ++ section_ends 1 (take (k + 1) sections)) old t.rows.now t.count) (sym w.starts-is)
             (subst (λ ss. Holds ss old c.loop-index.starts.rows.now c.loop-index.starts.count) (ends_skipped cs sections k (get_or lent k none) found w.if-section.false) (c.loop-index.invariant.1 cs old h)),
         subst (λ t. SameSlice c.args.starts.now t) (sym w.starts-is) c.loop-index.invariant.2,
+        subst (λ t. StaysOrdered start_rank c.args.starts.now t) (sym w.starts-is) c.loop-index.invariant.3,
       )
     ]
 

@@ -10,6 +10,7 @@ use Rattle.base.specs.declared.context.KnownStart.{KnownStart as Start}
 use Rattle.base.specs.declared.refusal.Refusal.TheVariants.{StartTableFull}
 use Rattle.base.specs.declared.refusal.Step.TheVariants.{ReadPublicSymbols}
 use Rattle.base.specs.declared.refusal.FaultyList.TheVariants.{PublicSymbols}
+use Rattle.base.specs.Rows.{start_rank}
 use Rattle.table.specs.Slice.{SameSlice}
 use Rattle.building.specs.Starts.{symbol_starts, offset_count, or_else}
 use Rattle.building.specs.Outcome.{fault}
@@ -18,6 +19,7 @@ use Rattle.building.proofs.Items.{item_within, refused_item, refused_end, refuse
 use Rattle.building.proofs.Outcomes.{or_none}
 use Rattle.building.proofs.Symbols.{symbol_kept, symbol_skipped, symbol_full, holds-room}
 use Rattle.sections.specs.Used.{used}
+use Rattle.starts.specs.Order.{StaysOrdered}
 use Rattle.starts.proofs.read_public_symbols.Given.{Over}
 use Rattle.starts.proofs.read_public_symbols.Goals as goal
 use Rattle.starts.proofs.read_public_symbols.Goals.{then-executable+in_ok-add_start, else-executable}
@@ -70,6 +72,7 @@ loop-item-preserved g c =
             (subst (λ ss. Holds ss old w.add_start.new.starts.rows.now w.add_start.new.starts.count) (symbol_kept sections i.symbols item c.in-Some.symbol found runs)
             (subst (λ x. Holds (symbol_starts sections (take item i.symbols) ++ x ∷ []) old w.add_start.new.starts.rows.now w.add_start.new.starts.count) w.from.ensures added)),
         subst (λ t. SameSlice c.args.starts.now t) (sym w.starts-is) (w.add_start.ensures.slice.0 ∙ c.loop-item.invariant.2.0, w.add_start.ensures.slice.1 ∙ c.loop-item.invariant.2.1),
+        subst (λ t. StaysOrdered start_rank c.args.starts.now t) (sym w.starts-is) (λ h. w.add_start.ensures.ordered (c.loop-item.invariant.3 h)),
       )
       | else-executable w ↦ (
         omega (arith, within),
@@ -78,6 +81,7 @@ loop-item-preserved g c =
             subst (λ t. Holds (symbol_starts sections (take (item + 1) i.symbols)) old t.rows.now t.count) (sym w.starts-is)
             (subst (λ ss. Holds ss old c.loop-item.starts.rows.now c.loop-item.starts.count) (symbol_skipped sections i.symbols item c.in-Some.symbol found runs) (before old h)),
         subst (λ t. SameSlice c.args.starts.now t) (sym w.starts-is) c.loop-item.invariant.2,
+        subst (λ t. StaysOrdered start_rank c.args.starts.now t) (sym w.starts-is) c.loop-item.invariant.3,
       )
     ]
 

@@ -15,6 +15,7 @@ returns-in-Some c =
       closed = λ bs old h e ok. subst (λ l. Filed l old c.close_block.new.contributions.rows.now c.close_block.new.contributions.count) (sym (split bs e)) (c.close_block.ensures.added (drop 1 bs) old h ok);
       starts = refl;
       slice = c.close_block.ensures.slice;
+      ordered = c.close_block.ensures.ordered;
     }
 
 pub returns-in-None : goal.returns-in-None
@@ -25,4 +26,5 @@ returns-in-None c =
       closed = λ bs old h e ok. subst (λ l. Filed l old c.args.self.now.contributions.rows.now c.args.self.now.contributions.count) (sym (none bs e)) (subst (λ l. Filed (drop 1 l) old c.args.self.now.contributions.rows.now c.args.self.now.contributions.count) (none bs e) h);
       starts = refl;
       slice = (refl, refl);
+      ordered = λ h. h;
     }

@@ -38,6 +38,7 @@ returns-in_default c =
           (first_read symbols cs old s.rows.now s.count rows t.rows.now t.count c.args.item new (subst (Reading symbols cs old s.rows.now s.count rows t.rows.now t.count) c.in_default.is h) size))
           c.open_block.ensures.opened;
       slices = ((refl, refl), (refl, refl));
+      ordered = (λ h. h, λ h. h);
     }
 
 pub returns-in_err-add_start : goal.returns-in_err-add_start
@@ -53,6 +54,7 @@ returns-in_err-add_start c =
           (full_of _ _ c.from.ensures _ _ _ (c.in_err-add_start.ensures.refused _ old h'.starts_hold));
       read = λ symbols cs old rows h size. none_made c.from_residual.result p.0 _ p.1;
       slices = (c.add_start.ensures.slice, (refl, refl));
+      ordered = (c.add_start.ensures.ordered, λ h. h);
     }
 
 pub returns-then-joins : goal.returns-then-joins
@@ -76,6 +78,7 @@ returns-then-joins c =
           (held_of _ _ c.from.ensures _ _ _ _ (c.in_ok-add_start.ensures.added _ old h'.starts_hold refl)) joined size
           (joined_start symbols cs old s.rows.now s.count rows t.rows.now t.count c.args.item new b h' none)));
       slices = (c.add_start.ensures.slice, (refl, refl));
+      ordered = (c.add_start.ensures.ordered, λ h. h);
     }
 
 pub returns-in_err-close_block : goal.returns-in_err-close_block
@@ -95,6 +98,7 @@ returns-in_err-close_block c =
           (c.in_err-close_block.ensures.refused _ rows h'.closed);
       read = λ symbols cs old rows h size. none_made c.from_residual-in_err-close_block.result p.0 _ p.1;
       slices = (c.add_start.ensures.slice, c.close_block.ensures.slice);
+      ordered = (c.add_start.ensures.ordered, c.close_block.ensures.ordered);
     }
 
 pub returns : goal.returns
@@ -120,4 +124,5 @@ returns c =
           (c.in_ok-close_block.ensures.added _ rows h'.closed refl) apart size))
           c.open_block-2.ensures.opened;
       slices = (c.add_start.ensures.slice, c.close_block.ensures.slice);
+      ordered = (c.add_start.ensures.ordered, c.close_block.ensures.ordered);
     }

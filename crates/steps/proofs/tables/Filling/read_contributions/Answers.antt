@@ -10,7 +10,7 @@ use Rattle.building.specs.Filling.{Holds}
 use Rattle.building.proofs.Items.{item_within, refused_item, refused_end, refused_fault, end_take, refused_here, refused_on, refused_none}
 use Rattle.building.proofs.Outcomes.{or_some, or_none}
 use Rattle.building.proofs.Reading.{reading-none, kept-more_by, counted_size, counted-refusal, kept_as_before, skipped_refusal}
-use Rattle.steps.specs.Tables.{Reads, SameSlices}
+use Rattle.steps.specs.Tables.{Reads, SameSlices, StayOrdered}
 use Rattle.steps.proofs.tables.Filling.read_contributions.Given.{Over}
 use Rattle.steps.proofs.tables.Filling.read_contributions.Goals as goal
 use Rattle.steps.proofs.tables.Filling.read_contributions.Goals.{then-keeps+in_ok-block, else-keeps}
@@ -18,7 +18,7 @@ use Rattle.steps.proofs.tables.Filling.read_contributions.Goals.{then-keeps+in_o
 pub loop-item-init : goal.loop-item-init
 loop-item-init g c =
     let i = g.S.ImageSource.image c.args.source.now in
-    (omega arith, λ old rows same h f. (reading-none (all_symbols i) old _ _ rows _ _ h f, refl), ((refl, refl), (refl, refl)))
+    (omega arith, λ old rows same h f. (reading-none (all_symbols i) old _ _ rows _ _ h f, refl), ((refl, refl), (refl, refl)), (λ h. h, λ h. h))
 
 pub returns-in_err-contribution-clause-refused : goal.returns-in_err-contribution-clause-refused
 returns-in_err-contribution-clause-refused g c = λ old rows same h f.
@@ -92,6 +92,7 @@ loop-item-preserved g c =
           (w.next_block.ensures.slices.0.0 ∙ before.2.0.0, w.next_block.ensures.slices.0.1 ∙ before.2.0.1),
           (w.next_block.ensures.slices.1.0 ∙ before.2.1.0, w.next_block.ensures.slices.1.1 ∙ before.2.1.1),
         ),
+        subst (λ f. StayOrdered c.args.self.now f) (sym w.self-is) (λ h. w.next_block.ensures.ordered.0 (before.3.0 h), λ h. w.next_block.ensures.ordered.1 (before.3.1 h)),
       )
       | else-keeps w ↦ (
         omega (arith, within),
@@ -103,6 +104,7 @@ loop-item-preserved g c =
               sym (refused_on (contribution_refusal i (length old) (length rows)) i.contributions item new found (skipped_refusal i (length old) (length rows) item new found skipped)) ∙ inv.1,
             ),
         subst (λ f. SameSlices c.args.self.now f) (sym w.self-is) before.2,
+        subst (λ f. StayOrdered c.args.self.now f) (sym w.self-is) before.3,
       )
     ]
 

@@ -5,7 +5,7 @@ use Rattle.building.specs.Starts.{kept}
 use Rattle.building.specs.Outcome.{all_symbols, first_refusal, contribution_refusal}
 use Rattle.building.specs.Filling.{Holds, Filed}
 use Rattle.sections.specs.Used.{used}
-use Rattle.steps.specs.Tables.{SameSlices, Reads}
+use Rattle.steps.specs.Tables.{SameSlices, StayOrdered, Reads}
 use Rattle.steps.proofs.tables.Filling.read_contributions.Given as goal
 
 abbrev pub invariant-loop-item : goal.invariant-loop-item
@@ -14,3 +14,4 @@ invariant-loop-item g l =
     (l.item ≤ length i.contributions)
     × ((old : List KnownStart) (rows : List Contribution) → used l.sections ≡ i.sections → Holds (all_symbols i) old l.fn.self.starts.rows.now l.fn.self.starts.count → Filed [] rows l.fn.self.contributions.rows.now l.fn.self.contributions.count → Reads (all_symbols i) (kept i.sections (take l.item i.contributions)) old rows l.self × (first_refusal (contribution_refusal i (length old) (length rows)) l.item (drop l.item i.contributions) ≡ first_refusal (contribution_refusal i (length old) (length rows)) 0 i.contributions))
     × SameSlices l.fn.self l.self
+    × StayOrdered l.fn.self l.self
