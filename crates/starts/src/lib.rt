@@ -1,12 +1,14 @@
 // The table of known starts, and the two steps of building that only add to it: public symbols and section ends.
 #![tactic(auto)]
 
-ghost use Rattle.std.specs.Prelude.{◌≡◌, true, List, [], ◌∷◌, ◌++◌, length, is_ok};
+ghost use Rattle.std.specs.Prelude.{◌≡◌, true, false, List, [], ◌∷◌, ◌++◌, length, take, is_ok, if◌then◌else◌, Some, None};
 ghost use Rattle.std.specs.Result.{result_err};
 ghost use Rattle.base.specs.declared.context.KnownStart.{KnownStart as Start};
 ghost use Rattle.base.specs.declared.refusal.Step.TheVariants.{ReadPublicSymbols, AddSectionEnds};
 ghost use Rattle.base.specs.declared.refusal.FaultyList.TheVariants.{PublicSymbols};
-ghost use Rattle.base.specs.Rows.{start_rank};
+ghost use Rattle.order.specs.Rank.{InOrder};
+ghost use Rattle.order.specs.Placed.{Settled};
+ghost use Rattle.base.specs.Rows.{start_rank, start_meets};
 ghost use Rattle.table.specs.Slice.{SameSlice};
 ghost use Rattle.building.specs.Starts.{symbol_starts, section_ends, or_else};
 ghost use Rattle.building.specs.Outcome.{fault, starts_full};
@@ -30,6 +32,8 @@ pub fn add_start(
 ) -> Result<(), Refusal>
     ensures refused { (cs old : List Start) → Holds cs old starts.old.rows.now starts.old.count → result_err result ≡ starts_full (length old) (cs ++ start ∷ []) step }
     ensures added { (cs old : List Start) → Holds cs old starts.old.rows.now starts.old.count → is_ok result ≡ true → Holds (cs ++ start ∷ []) old starts.new.rows.now starts.new.count }
+    ensures outcome { InOrder start_rank (take starts.old.count starts.old.rows.now) → Settled start_rank start_meets starts.old.rows.now starts.old.count start (if is_ok result then Some starts.new.count else None) starts.new.rows.now }
+    ensures full { is_ok result ≡ false → starts.new.count ≡ starts.old.count }
     ensures slice { SameSlice starts.old starts.new }
     ensures ordered { StaysOrdered start_rank starts.old starts.new }
 {

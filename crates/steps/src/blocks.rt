@@ -1,12 +1,14 @@
 // The contributions: blocks in order, the starts that they add, and overlaps.
-ghost use Rattle.std.specs.Prelude.{◌≡◌, ◌<◌, true, ◌||◌, List, [], ◌∷◌, ◌++◌, length, take, drop, is_ok, IfOk, if◌then◌else◌, Some, None, nat_lt};
+ghost use Rattle.std.specs.Prelude.{◌≡◌, ◌<◌, true, false, ◌||◌, List, [], ◌∷◌, ◌++◌, length, take, drop, is_ok, IfOk, if◌then◌else◌, Some, None, nat_lt};
 ghost use Rattle.std.specs.Result.{result_err};
 ghost use Rattle.std.specs.List.{slice_get};
 ghost use Rattle.base.specs.declared.context.KnownStart.{KnownStart as Start};
 ghost use Rattle.base.specs.declared.context.Contribution.{Contribution as Row};
 ghost use Rattle.base.specs.declared.image.SectionContribution.{SectionContribution as Item};
 ghost use Rattle.base.specs.declared.refusal.Refusal.TheVariants.{Unordered};
-ghost use Rattle.base.specs.Rows.{contribution_rank};
+ghost use Rattle.order.specs.Rank.{InOrder};
+ghost use Rattle.order.specs.Placed.{Settled};
+ghost use Rattle.base.specs.Rows.{contribution_rank, contribution_meets};
 ghost use Rattle.table.specs.Slice.{SameSlice};
 ghost use Rattle.building.specs.Starts.{contribution_starts, or_else};
 ghost use Rattle.building.specs.Blocks.{end_of, block, joins, grown, blocks, overlaps, first_overlap};
@@ -73,6 +75,8 @@ fn extend_block(
 fn close_block(contributions: &mut Table<Contribution>, block: Contribution) -> Result<(), Refusal>
     ensures refused { (bs old : List Row) → Filed bs old contributions.old.rows.now contributions.old.count → result_err result ≡ blocks_full (length old) (block ∷ bs) }
     ensures added { (bs old : List Row) → Filed bs old contributions.old.rows.now contributions.old.count → is_ok result ≡ true → Filed (block ∷ bs) old contributions.new.rows.now contributions.new.count }
+    ensures outcome { InOrder contribution_rank (take contributions.old.count contributions.old.rows.now) → Settled contribution_rank contribution_meets contributions.old.rows.now contributions.old.count block (if is_ok result then Some contributions.new.count else None) contributions.new.rows.now }
+    ensures full { is_ok result ≡ false → contributions.new.count ≡ contributions.old.count }
     ensures slice { SameSlice contributions.old contributions.new }
     ensures ordered { StaysOrdered contribution_rank contributions.old contributions.new }
 {
